@@ -1,0 +1,185 @@
+// Why a study is refused, and where.
+
+/// A section of a study, with the whole file and the networks beside them.
+#[derive(Clone, Copy, Debug, PartialEq, Eq)]
+pub enum Section {
+    Top,
+    Network,
+    Study,
+    Bus,
+    Source,
+    Line,
+    Transformer,
+    Load,
+    Bank,
+    Filter,
+    Scan,
+    Pcc,
+}
+
+impl Section {
+    ghost use Rattle.std.specs.Prelude.{◌≡◌};
+    ghost use Rattle.study_model.specs.Words.{section_text};
+
+    /// The word as it is written.
+    pub fn text(self) -> &'static str
+        ensures { result.now ≡ section_text self }
+    {
+        match self {
+            Section::Top => "top",
+            Section::Network => "network",
+            Section::Study => "study",
+            Section::Bus => "bus",
+            Section::Source => "source",
+            Section::Line => "line",
+            Section::Transformer => "transformer",
+            Section::Load => "load",
+            Section::Bank => "bank",
+            Section::Filter => "filter",
+            Section::Scan => "scan",
+            Section::Pcc => "pcc",
+        }
+    }
+}
+
+/// A key of a section, or none.
+#[derive(Clone, Copy, Debug, PartialEq, Eq)]
+pub enum Key {
+    Nothing,
+    Version,
+    Mva,
+    Hz,
+    Model,
+    Scale,
+    Method,
+    Root3,
+    Name,
+    Kv,
+    Bus,
+    R,
+    X,
+    R0,
+    X0,
+    SkinK,
+    SkinM,
+    From,
+    To,
+    B,
+    B0,
+    Sections,
+    Xab,
+    Xbc,
+    Xca,
+    Ratio,
+    FromConn,
+    ToConn,
+    FromRn,
+    FromXn,
+    ToRn,
+    ToXn,
+    P,
+    Q,
+    Grounded,
+    Phase,
+    Kind,
+    Order,
+    Quality,
+    Network,
+    Threshold,
+    Finest,
+    Locate,
+    Element,
+    Isc,
+    Il,
+}
+
+impl Key {
+    ghost use Rattle.std.specs.Prelude.{◌≡◌};
+    ghost use Rattle.study_model.specs.Words.{key_text};
+
+    /// The word as it is written.
+    pub fn text(self) -> &'static str
+        ensures { result.now ≡ key_text self }
+    {
+        match self {
+            Key::Nothing => "-",
+            Key::Version => "version",
+            Key::Mva => "mva",
+            Key::Hz => "hz",
+            Key::Model => "model",
+            Key::Scale => "scale",
+            Key::Method => "method",
+            Key::Root3 => "root3",
+            Key::Name => "name",
+            Key::Kv => "kv",
+            Key::Bus => "bus",
+            Key::R => "r",
+            Key::X => "x",
+            Key::R0 => "r0",
+            Key::X0 => "x0",
+            Key::SkinK => "skin_k",
+            Key::SkinM => "skin_m",
+            Key::From => "from",
+            Key::To => "to",
+            Key::B => "b",
+            Key::B0 => "b0",
+            Key::Sections => "sections",
+            Key::Xab => "xab",
+            Key::Xbc => "xbc",
+            Key::Xca => "xca",
+            Key::Ratio => "ratio",
+            Key::FromConn => "from_conn",
+            Key::ToConn => "to_conn",
+            Key::FromRn => "from_rn",
+            Key::FromXn => "from_xn",
+            Key::ToRn => "to_rn",
+            Key::ToXn => "to_xn",
+            Key::P => "p",
+            Key::Q => "q",
+            Key::Grounded => "grounded",
+            Key::Phase => "phase",
+            Key::Kind => "kind",
+            Key::Order => "order",
+            Key::Quality => "quality",
+            Key::Network => "network",
+            Key::Threshold => "threshold",
+            Key::Finest => "finest",
+            Key::Locate => "locate",
+            Key::Element => "element",
+            Key::Isc => "isc",
+            Key::Il => "il",
+        }
+    }
+}
+
+/// A place in a study: a section, the number of an entry from 1 (0: the section as a whole), and a key.
+#[derive(Clone, Copy, Debug, PartialEq, Eq)]
+pub struct Place {
+    pub section: Section,
+    pub entry: u32,
+    pub key: Key,
+}
+
+/// Why a study is refused.
+#[derive(Clone, Copy, Debug, PartialEq, Eq)]
+pub enum StudyFault {
+    NotToml,
+    VersionUnknown,
+    MissingKey(Place),
+    UnknownKey(Place),
+    WrongKind(Place),
+    BareDecimal(Place),
+    BadDecimal(Place),
+    OutOfRange(Place),
+    BadName(Place),
+    DuplicateName(Place),
+    UnknownBus(Place),
+    TooMany(Place),
+    BadBand(Place),
+    TooFine(Place),
+    Floating(Place),
+    PhaseFloating(Place),
+    NotBuilt(Place),
+    UnknownElement(Place),
+    NoMemory,
+}

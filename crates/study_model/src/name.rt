@@ -1,0 +1,84 @@
+// Names, of 1 to 32 bytes.
+ghost use Rattle.std.specs.Prelude.{◌≡◌, ◌-◌, ◌≤◌, ◌++◌, length, replicate};
+ghost use Rattle.std.specs.List.{list_all};
+ghost use Rattle.study_model.specs.NameText.{name_of, is_name, is_name_byte};
+
+use std::marker::Model;
+
+/// A name: its first `len` bytes, each a letter, a digit or one of `_ . -`, and zeros after them.
+#[derive(Clone, Copy)]
+pub struct Name {
+    pub len: u8,
+    pub bytes: [u8; 32],
+}
+
+impl Model for Name {
+    ghost use Rattle.std.specs.Prelude.{List, ℕ, length, take};
+
+    ghost Value = { List ℕ };
+
+    ghost use Rattle.study_model.specs.Name.{IsPadded, inverse_of, inverse_is};
+
+    ghost view = { λ n. take n.len n.bytes };
+
+    ghost invariant = { λ n. IsPadded n.len n.bytes };
+
+    ghost inverse = { inverse_of };
+
+    ghost inverse_ok = { inverse_is };
+}
+
+fn is_name_byte(byte: u8) -> bool
+    ensures { result ≡ is_name_byte byte }
+{
+    matches!(byte, b'A'..=b'Z' | b'a'..=b'z' | b'0'..=b'9' | b'_' | b'.' | b'-')
+}
+
+fn are_name_bytes(text: &[u8]) -> bool
+    ensures { result ≡ list_all is_name_byte text.now }
+{
+    text.iter().all(|byte| is_name_byte(*byte))
+}
+
+#[tactic(auto, using(std::proofs::lemmas::Bool::Decides::nat_tests))]
+fn is_name(text: &[u8]) -> bool
+    ensures { result ≡ is_name text.now }
+{
+    text.len() >= 1 && text.len() <= 32 && are_name_bytes(text)
+}
+
+/// The text, and zeros up to 32 bytes.
+#[tactic(auto, using(crate::proofs::Names::zeros_left))]
+fn padded(text: &[u8]) -> [u8; 32]
+    requires { length text.now ≤ 32 }
+    ensures { result ≡ text.now ++ replicate (32 - length text.now) 0 }
+{
+    let mut bytes = [0; 32];
+    bytes[..text.len()].copy_from_slice(text);
+    bytes
+}
+
+impl Name {
+    ghost use Rattle.std.specs.Prelude.{◌≡◌, ◌≤◌, length};
+
+    #[tactic(auto, using(crate::proofs::Names::name_steps))]
+    /// The text as a name, where it is one.
+    pub fn parse(text: &[u8]) -> Option<Name>
+        ensures { result ≡ name_of text.now }
+    {
+        if !is_name(text) {
+            return None;
+        }
+        Some(Name {
+            len: text.len() as u8,
+            bytes: padded(text),
+        })
+    }
+
+    pub fn as_bytes(&self) -> &[u8]
+        ensures bytes { result.now ≡ self.now }
+        ensures len { length result.now ≤ 32 }
+    {
+        &self.bytes[..self.len as usize]
+    }
+}
