@@ -1,0 +1,4 @@
+pub mod Bands
+pub mod Levels
+pub mod Splits
+pub mod Covering
