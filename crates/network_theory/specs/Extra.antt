@@ -1,0 +1,21 @@
+-- Networks with one more shunt.
+use Rattle.std.specs.Prelude.{ℕ, pos, [], ◌∷◌, ◌++◌}
+use Rattle.exact_algebra.specs.Ratio.{Ratio, whole}
+use Rattle.exact_algebra.specs.Complex.{Complex, complex_numbers}
+use Rattle.network_theory.specs.Order.{Order}
+use Rattle.network_theory.specs.Branch.{Shunt, Branch}
+use Rattle.network_theory.specs.Network.{Network}
+use Rattle.network_theory.specs.Impedance.{shunt_admittance}
+use Rattle.network_theory.specs.Scanned.{IsReducedTo}
+
+-- a Shunt of susceptance e from node k to ground
+abbrev pub shunt_at : ℕ → Ratio → Branch
+shunt_at k e = record { taps = record { node = k; ratio = whole (pos 1) } ∷ []; law = Shunt e; group = 0; owner = 0 }
+
+-- the network with this branch as its last
+abbrev pub with_shunt : Network → ℕ → Ratio → Network
+with_shunt network k e = record network { branches = network.branches ++ shunt_at k e ∷ [] }
+
+-- a shunt at the driven node adds jhe to the reduced value
+abbrev pub ExtraShunt : Type 0
+ExtraShunt = (network : Network) (h : Order) (k : ℕ) (y : Complex) (e : Ratio) → IsReducedTo network h k y → IsReducedTo (with_shunt network k e) h k (complex_numbers.◌⊕◌ y (shunt_admittance e h))

@@ -1,0 +1,275 @@
+// The rows of a report, and the calls that write them.
+ghost use Rattle.std.specs.Prelude.{◌≡◌, ◌≤◌, length};
+ghost use Rattle.scan_report.specs.Rows.{row_text, IsBoxRow, IsScanRow, IsSummaryRow, IsEndRow};
+
+use crate::fields::{
+    push_at, push_box_word, push_decimal, push_method, push_name, push_net_word, push_ohms,
+};
+use crate::line::{LineBuf, push_number, push_places};
+use fixed_decimal::Decimal;
+use study_model::{Method, Name};
+
+/// The network that a scan is of: a sequence network, or the network of the phases seen from one of them.
+#[derive(Clone, Copy, Debug, PartialEq, Eq)]
+pub enum NetWord {
+    Positive,
+    Zero,
+    A,
+    B,
+    C,
+}
+
+/// What was found of a box.
+#[derive(Clone, Copy, Debug, PartialEq, Eq)]
+pub enum BoxWord {
+    Cleared,
+    Peak,
+    Undecided,
+}
+
+/// A row of a report. Orders are in micro-orders, ohms in micro-ohms.
+#[derive(Clone, Copy)]
+pub enum Row {
+    /// The first row of a scan: its band, and its threshold in ohms.
+    Scan {
+        name: Name,
+        bus: Name,
+        network: NetWord,
+        from: u32,
+        to: u32,
+        threshold: Decimal,
+        method: Method,
+    },
+    /// A box, by its number from 1 within the scan. A peak has an order and a bound.
+    BoxLine {
+        number: u32,
+        lo: u32,
+        hi: u32,
+        word: BoxWord,
+        at: Option<u32>,
+        micro_ohms: Option<i128>,
+    },
+    /// The last row of a scan: how many boxes it has, of each kind too, and how many regions.
+    Summary {
+        name: Name,
+        boxes: u32,
+        cleared: u32,
+        peaks: u32,
+        undecided: u32,
+        regions: u32,
+    },
+    /// The last row of a report.
+    End {
+        status: u32,
+    },
+}
+
+/// Sets the line to the text of a scan's first row.
+/// Condition: the row is of its kind, and its threshold is above 0.
+pub fn scan_row(row: &Row, line: &mut LineBuf)
+    requires { IsScanRow row.now }
+    ensures text { line.new ≡ row_text row.now }
+    ensures len { length line.new ≤ 255 }
+{
+    match row {
+        Row::Scan {
+            name,
+            bus,
+            network,
+            from,
+            to,
+            threshold,
+            method,
+        } => {
+            line.clear();
+            line.push_text(b"scan,");
+            push_name(line, name);
+            line.push(b',');
+            push_name(line, bus);
+            line.push(b',');
+            push_net_word(line, *network);
+            line.push(b',');
+            push_places(line, u128::from(*from));
+            line.push(b',');
+            push_places(line, u128::from(*to));
+            line.push(b',');
+            push_decimal(line, threshold);
+            line.push(b',');
+            push_method(line, *method);
+            line.push(b'\n');
+        }
+        _ => unreachable!(),
+    }
+}
+
+/// Sets the line to the text of a box.
+/// Condition: the row is of its kind, and its ohms, where it has some, are from 0 to 2^120.
+pub fn box_row(row: &Row, line: &mut LineBuf)
+    requires { IsBoxRow row.now }
+    ensures text { line.new ≡ row_text row.now }
+    ensures len { length line.new ≤ 255 }
+{
+    match row {
+        Row::BoxLine {
+            number,
+            lo,
+            hi,
+            word,
+            at,
+            micro_ohms,
+        } => {
+            line.clear();
+            line.push_text(b"box,");
+            push_number(line, *number);
+            line.push(b',');
+            push_places(line, u128::from(*lo));
+            line.push(b',');
+            push_places(line, u128::from(*hi));
+            line.push(b',');
+            push_box_word(line, *word);
+            line.push(b',');
+            push_at(line, *at);
+            line.push(b',');
+            push_ohms(line, *micro_ohms);
+            line.push(b'\n');
+        }
+        _ => unreachable!(),
+    }
+}
+
+/// Sets the line to the text of a scan's last row. Condition: the row is of its kind.
+pub fn summary_row(row: &Row, line: &mut LineBuf)
+    requires { IsSummaryRow row.now }
+    ensures text { line.new ≡ row_text row.now }
+    ensures len { length line.new ≤ 255 }
+{
+    match row {
+        Row::Summary {
+            name,
+            boxes,
+            cleared,
+            peaks,
+            undecided,
+            regions,
+        } => {
+            line.clear();
+            line.push_text(b"summary,");
+            push_name(line, name);
+            line.push(b',');
+            push_number(line, *boxes);
+            line.push(b',');
+            push_number(line, *cleared);
+            line.push(b',');
+            push_number(line, *peaks);
+            line.push(b',');
+            push_number(line, *undecided);
+            line.push(b',');
+            push_number(line, *regions);
+            line.push(b'\n');
+        }
+        _ => unreachable!(),
+    }
+}
+
+/// Sets the line to the text of a report's last row. Condition: the row is of its kind.
+pub fn end_row(row: &Row, line: &mut LineBuf)
+    requires { IsEndRow row.now }
+    ensures text { line.new ≡ row_text row.now }
+    ensures len { length line.new ≤ 255 }
+{
+    match row {
+        Row::End { status } => {
+            line.clear();
+            line.push_text(b"end,");
+            push_number(line, *status);
+            line.push(b'\n');
+        }
+        _ => unreachable!(),
+    }
+}
+
+#[cfg(test)]
+mod tests {
+    use super::*;
+    use std::test::Fail;
+
+    fn name(text: &str) -> Result<Name, Fail> {
+        Ok(Name::parse(text.as_bytes()).ok_or("no name")?)
+    }
+
+    #[test]
+    fn rows_of_a_scan(rt: HostRuntime) -> Result<(), Fail> {
+        let mut line = LineBuf::new();
+        let scan = Row::Scan {
+            name: name("s1")?,
+            bus: name("B1")?,
+            network: NetWord::Positive,
+            from: 3_000_000,
+            to: 7_000_000,
+            threshold: Decimal {
+                millionths: 20_000_000,
+            },
+            method: Method::Elimination,
+        };
+        scan_row(&scan, &mut line);
+        let want = "scan,s1,B1,positive,3.000000,7.000000,20.000000,elimination\n";
+        assert_eq!(rt; line.as_bytes(), want.as_bytes());
+        let summary = Row::Summary {
+            name: name("s1")?,
+            boxes: 6,
+            cleared: 2,
+            peaks: 4,
+            undecided: 0,
+            regions: 1,
+        };
+        summary_row(&summary, &mut line);
+        assert_eq!(rt; line.as_bytes(), "summary,s1,6,2,4,0,1\n".as_bytes());
+        end_row(&Row::End { status: 3 }, &mut line);
+        assert_eq!(rt; line.as_bytes(), "end,3\n".as_bytes());
+        Ok(())
+    }
+
+    #[test]
+    fn boxes_of_each_kind(rt: HostRuntime) {
+        let mut line = LineBuf::new();
+        let cleared = Row::BoxLine {
+            number: 1,
+            lo: 3_000_000,
+            hi: 4_000_000,
+            word: BoxWord::Cleared,
+            at: None,
+            micro_ohms: None,
+        };
+        box_row(&cleared, &mut line);
+        let want = "box,1,3.000000,4.000000,cleared,-,-\n";
+        assert_eq!(rt; line.as_bytes(), want.as_bytes());
+        let peak = Row::BoxLine {
+            number: 2,
+            lo: 4_000_000,
+            hi: 4_500_000,
+            word: BoxWord::Peak,
+            at: Some(4_500_000),
+            micro_ohms: Some(23_584_458),
+        };
+        box_row(&peak, &mut line);
+        let want = "box,2,4.000000,4.500000,peak,4.500000,23.584458\n";
+        assert_eq!(rt; line.as_bytes(), want.as_bytes());
+    }
+
+    #[test]
+    fn numbers_at_their_ends(rt: HostRuntime) {
+        let mut line = LineBuf::new();
+        let row = Row::BoxLine {
+            number: u32::MAX,
+            lo: 0,
+            hi: 1,
+            word: BoxWord::Undecided,
+            at: Some(u32::MAX),
+            micro_ohms: Some(1 << 120),
+        };
+        box_row(&row, &mut line);
+        let want =
+            "box,4294967295,0.000000,0.000001,undecided,4294.967295,1329227995784915872903807060280.344576\n";
+        assert_eq!(rt; line.as_bytes(), want.as_bytes());
+    }
+}
