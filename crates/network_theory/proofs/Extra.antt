@@ -19,7 +19,7 @@ use Rattle.network_theory.proofs.Numbers.{R, one_at, one_at-same, one_at-apart}
 use Rattle.network_theory.proofs.Carried.{part_entry-is, IsAmong}
 use Rattle.network_theory.proofs.Bridge.{not_among}
 use Rattle.network_theory.proofs.Driven.{at_among}
-use Rattle.network_theory.proofs.OneBus.{real-unit}
+use Rattle.network_theory.proofs.OneNode.{real-unit}
 open complex_numbers use {◌≈◌, nought, unit, ◌⊕◌, ◌⊗◌, minus}
 open complex_field use {same, back, next, add_same, mul_same, minus_same}
 

@@ -17,7 +17,7 @@ use Rattle.network_theory.specs.DrivingPoint.{HasOnlyZeroState, no_injection, un
 use Rattle.network_theory.specs.Laws.{LiveIsNode}
 use Rattle.network_theory.specs.Phases.{phase_to_ground, three_phases, CoupledPhases, behind_ratio, BehindRatio}
 use Rattle.network_theory.proofs.Numbers.{R, one_at, one_at-apart}
-use Rattle.network_theory.proofs.OneBus.{real-unit}
+use Rattle.network_theory.proofs.OneNode.{real-unit}
 open complex_numbers use {◌≈◌, nought, unit, ◌⊕◌, ◌⊗◌, minus}
 open complex_field use {same, back, next, add_same, mul_same}
 

@@ -12,6 +12,7 @@ pub mod Admittance
 pub mod Current
 pub mod Nodal
 pub mod Scanned
+pub mod OneNode
 pub mod OneBus
 pub mod Laws
 pub mod Extra

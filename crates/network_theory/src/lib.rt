@@ -5,6 +5,7 @@ ghost use Rattle.network_theory.specs.Laws.{LiveIsLeast, PlainResistance, OneImp
 ghost use Rattle.network_theory.specs.Phases.{CoupledPhases, BehindRatio};
 ghost use Rattle.network_theory.specs.Figures.{WorkedFigures};
 ghost use Rattle.network_theory.specs.Extra.{ExtraShunt};
+ghost use Rattle.network_theory.specs.OneNode.{OneNodeReduced};
 ghost use Rattle.network_theory.specs.OneBus.{SeriesAlone, BesideShunt, AtThreeAndAQuarter, NoneAtFive};
 
 /// The live nodes are in every set that is closed.
@@ -52,7 +53,12 @@ pub fn peak()
     ensures law { Peak }
 {}
 
-/// One series branch to ground has the impedance r + jhx.
+/// Of a network of one node the nodal matrix is the sum of the branches' admittances.
+pub fn one_node()
+    ensures law { OneNodeReduced }
+{}
+
+// One series branch to ground has the impedance r + jhx.
 pub fn series_alone()
     ensures law { SeriesAlone }
 {}
