@@ -2,5 +2,8 @@
 #![tactic(auto)]
 
 mod decimal;
+mod fault;
+mod parse;
 
 pub use decimal::Decimal;
+pub use fault::DecimalFault;
