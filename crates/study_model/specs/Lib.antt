@@ -1,3 +1,4 @@
 pub mod NameText
 pub mod Name
 pub mod Words
+pub mod Faults

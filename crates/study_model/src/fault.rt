@@ -18,12 +18,13 @@ pub enum Section {
 }
 
 impl Section {
-    ghost use Rattle.std.specs.Prelude.{◌≡◌};
+    ghost use Rattle.std.specs.Prelude.{◌≡◌, ◌≤◌, length};
     ghost use Rattle.study_model.specs.Words.{section_text};
 
     /// The word as it is written.
     pub fn text(self) -> &'static str
-        ensures { result.now ≡ section_text self }
+        ensures word { result.now ≡ section_text self }
+        ensures len { length result.now ≤ 11 }
     {
         match self {
             Section::Top => "top",
@@ -94,12 +95,13 @@ pub enum Key {
 }
 
 impl Key {
-    ghost use Rattle.std.specs.Prelude.{◌≡◌};
+    ghost use Rattle.std.specs.Prelude.{◌≡◌, ◌≤◌, length};
     ghost use Rattle.study_model.specs.Words.{key_text};
 
     /// The word as it is written.
     pub fn text(self) -> &'static str
-        ensures { result.now ≡ key_text self }
+        ensures word { result.now ≡ key_text self }
+        ensures len { length result.now ≤ 9 }
     {
         match self {
             Key::Nothing => "-",
@@ -182,4 +184,91 @@ pub enum StudyFault {
     NotBuilt(Place),
     UnknownElement(Place),
     NoMemory,
+}
+
+impl StudyFault {
+    ghost use Rattle.std.specs.Prelude.{◌≡◌, ◌≤◌, length};
+    ghost use Rattle.study_model.specs.Faults.{number_of, name_of, place_of};
+
+    /// The number of a refusal; want of memory has none.
+    pub fn number(&self) -> Option<u32>
+        ensures { result ≡ number_of self.now }
+    {
+        match self {
+            StudyFault::NotToml => Some(1),
+            StudyFault::VersionUnknown => Some(2),
+            StudyFault::MissingKey(_) => Some(3),
+            StudyFault::UnknownKey(_) => Some(4),
+            StudyFault::WrongKind(_) => Some(5),
+            StudyFault::BareDecimal(_) => Some(6),
+            StudyFault::BadDecimal(_) => Some(7),
+            StudyFault::OutOfRange(_) => Some(8),
+            StudyFault::BadName(_) => Some(9),
+            StudyFault::DuplicateName(_) => Some(10),
+            StudyFault::UnknownBus(_) => Some(11),
+            StudyFault::TooMany(_) => Some(12),
+            StudyFault::BadBand(_) => Some(13),
+            StudyFault::TooFine(_) => Some(14),
+            StudyFault::Floating(_) => Some(15),
+            StudyFault::PhaseFloating(_) => Some(16),
+            StudyFault::NotBuilt(_) => Some(17),
+            StudyFault::UnknownElement(_) => Some(18),
+            StudyFault::NoMemory => None,
+        }
+    }
+
+    /// The name of a refusal.
+    pub fn name(&self) -> &'static str
+        ensures name { result.now ≡ name_of self.now }
+        ensures len { length result.now ≤ 15 }
+    {
+        match self {
+            StudyFault::NotToml => "NotToml",
+            StudyFault::VersionUnknown => "VersionUnknown",
+            StudyFault::MissingKey(_) => "MissingKey",
+            StudyFault::UnknownKey(_) => "UnknownKey",
+            StudyFault::WrongKind(_) => "WrongKind",
+            StudyFault::BareDecimal(_) => "BareDecimal",
+            StudyFault::BadDecimal(_) => "BadDecimal",
+            StudyFault::OutOfRange(_) => "OutOfRange",
+            StudyFault::BadName(_) => "BadName",
+            StudyFault::DuplicateName(_) => "DuplicateName",
+            StudyFault::UnknownBus(_) => "UnknownBus",
+            StudyFault::TooMany(_) => "TooMany",
+            StudyFault::BadBand(_) => "BadBand",
+            StudyFault::TooFine(_) => "TooFine",
+            StudyFault::Floating(_) => "Floating",
+            StudyFault::PhaseFloating(_) => "PhaseFloating",
+            StudyFault::NotBuilt(_) => "NotBuilt",
+            StudyFault::UnknownElement(_) => "UnknownElement",
+            StudyFault::NoMemory => "NoMemory",
+        }
+    }
+
+    /// The place of a refusal, where it has one.
+    pub fn place(&self) -> Option<Place>
+        ensures { result ≡ place_of self.now }
+    {
+        match self {
+            StudyFault::NotToml => None,
+            StudyFault::VersionUnknown => None,
+            StudyFault::NoMemory => None,
+            StudyFault::MissingKey(place) => Some(*place),
+            StudyFault::UnknownKey(place) => Some(*place),
+            StudyFault::WrongKind(place) => Some(*place),
+            StudyFault::BareDecimal(place) => Some(*place),
+            StudyFault::BadDecimal(place) => Some(*place),
+            StudyFault::OutOfRange(place) => Some(*place),
+            StudyFault::BadName(place) => Some(*place),
+            StudyFault::DuplicateName(place) => Some(*place),
+            StudyFault::UnknownBus(place) => Some(*place),
+            StudyFault::TooMany(place) => Some(*place),
+            StudyFault::BadBand(place) => Some(*place),
+            StudyFault::TooFine(place) => Some(*place),
+            StudyFault::Floating(place) => Some(*place),
+            StudyFault::PhaseFloating(place) => Some(*place),
+            StudyFault::NotBuilt(place) => Some(*place),
+            StudyFault::UnknownElement(place) => Some(*place),
+        }
+    }
 }

@@ -1,0 +1,98 @@
+-- When each status comes, from what a run does.
+use Rattle.std.proofs.Common.{◌≡◌, ◌≢◌, ◌⊎◌, inl, inr, ℕ, ◌<◌, Bool, true, false, cond, List, Option, Some, None, refl, ap, sym, ◌∙◌, arith}
+use Rattle.harm_io.specs.Shelves.{ShelfState, asked_too}
+use Rattle.harm_io.specs.Sinks.{SinkState, took}
+use Rattle.study_model.specs.declared.records.Study.{Study}
+use Rattle.harmscan_core.specs.Report.{report_status}
+use Rattle.harmscan_core.specs.Outcome.{HappensFor, status_at}
+use Rattle.harmscan_core.specs.declared.outcome.Outcome.{Outcome}
+use Rattle.harmscan_core.specs.declared.outcome.Outcome.TheVariants.{WordsRefused, ReadFailed, TooLarge, Refused, WriteFailed, NoMemory, Written}
+
+-- 0, 3 or 4: no status of another outcome
+pub record IsReportStatus (s : ℕ) : Type 0 where
+  pub one : s ≢ 1
+  pub two : s ≢ 2
+  pub five : s ≢ 5
+  pub six : s ≢ 6
+  pub seven : s ≢ 7
+
+chosen_status : (p u : Bool) → IsReportStatus (cond p 3 (cond u 4 0))
+chosen_status true u = record { one = λ e. omega arith; two = λ e. omega arith; five = λ e. omega arith; six = λ e. omega arith; seven = λ e. omega arith }
+chosen_status false true = record { one = λ e. omega arith; two = λ e. omega arith; five = λ e. omega arith; six = λ e. omega arith; seven = λ e. omega arith }
+chosen_status false false = record { one = λ e. omega arith; two = λ e. omega arith; five = λ e. omega arith; six = λ e. omega arith; seven = λ e. omega arith }
+
+pub reported : (study : Study) → IsReportStatus (report_status study)
+unfolding report_status
+reported study = chosen_status _ _
+
+same_faults : (s t : ShelfState) → t ≡ s → s.faults < t.faults → ⊥
+same_faults s t e h = let f : t.faults ≡ s.faults = ap (λ (x : ShelfState). x.faults) e in omega arith
+
+asked_faults : (s t : ShelfState) (name : List ℕ) → t ≡ asked_too s name → s.faults < t.faults → ⊥
+asked_faults s t name e h = let f : t.faults ≡ s.faults = ap (λ (x : ShelfState). x.faults) e in omega arith
+
+either_faults : (s t : ShelfState) (name : List ℕ) → (t ≡ s) ⊎ (t ≡ asked_too s name) → s.faults < t.faults → ⊥
+either_faults s t name (inl e) h = same_faults s t e h
+either_faults s t name (inr e) h = asked_faults s t name e h
+
+-- where the shelf's count became greater, the status is 5
+pub read_rose : (w : Option (List ℕ)) (s t : ShelfState) (out out' : SinkState) (o : Outcome) → HappensFor w s t out out' o → s.faults < t.faults → status_at o ≡ 5
+read_rose None s t out out' o h r = absurd (same_faults s t h.1 r)
+read_rose (Some name) s t out out' WordsRefused h r = absurd h
+read_rose (Some name) s t out out' ReadFailed h r = refl
+read_rose (Some name) s t out out' TooLarge h r = absurd (asked_faults s t name h.0 r)
+read_rose (Some name) s t out out' (Refused f) h r = absurd (asked_faults s t name h.0 r)
+read_rose (Some name) s t out out' WriteFailed h r = absurd (asked_faults s t name h.0 r)
+read_rose (Some name) s t out out' NoMemory (inl h) r = absurd (either_faults s t name h.0 r)
+read_rose (Some name) s t out out' NoMemory (inr h) r = absurd (asked_faults s t name h.0 r)
+read_rose (Some name) s t out out' (Written x) h r = absurd (asked_faults s t name h.0 r)
+
+-- the status 1 comes exactly where the words have no reading
+pub words_refused : (w : Option (List ℕ)) (s t : ShelfState) (out out' : SinkState) (o : Outcome) → HappensFor w s t out out' o → status_at o ≡ 1 → w ≡ None
+words_refused None s t out out' o h e = refl
+words_refused (Some name) s t out out' WordsRefused h e = absurd h
+words_refused (Some name) s t out out' ReadFailed h e = absurd (omega arith)
+words_refused (Some name) s t out out' TooLarge h e = absurd (omega arith)
+words_refused (Some name) s t out out' (Refused f) h e = absurd (omega arith)
+words_refused (Some name) s t out out' WriteFailed h e = absurd (omega arith)
+words_refused (Some name) s t out out' NoMemory h e = absurd (omega arith)
+words_refused (Some name) s t out out' (Written x) h e = absurd ((reported h.1.study).one (sym h.1.holds.status_is ∙ e))
+
+pub words_none : (w : Option (List ℕ)) (s t : ShelfState) (out out' : SinkState) (o : Outcome) → HappensFor w s t out out' o → w ≡ None → status_at o ≡ 1
+words_none None s t out out' o h e = ap status_at h.0
+words_none (Some name) s t out out' o h e = absurd (cc)
+
+same_out : (s t : SinkState) → t ≡ s → s.faults < t.faults → ⊥
+same_out s t e h = let f : t.faults ≡ s.faults = ap (λ (x : SinkState). x.faults) e in omega arith
+
+took_out : (s t : SinkState) (text : List ℕ) → t ≡ took s text → s.faults < t.faults → ⊥
+took_out s t text e h = let f : t.faults ≡ s.faults = ap (λ (x : SinkState). x.faults) e in omega arith
+
+-- where the count of faults of `out` became greater, the status is 6
+pub write_rose : (w : Option (List ℕ)) (s t : ShelfState) (out out' : SinkState) (o : Outcome) → HappensFor w s t out out' o → out.faults < out'.faults → status_at o ≡ 6
+write_rose None s t out out' o h r = absurd (same_out out out' h.2 r)
+write_rose (Some name) s t out out' WordsRefused h r = absurd h
+write_rose (Some name) s t out out' ReadFailed h r = absurd (same_out out out' h.1 r)
+write_rose (Some name) s t out out' TooLarge h r = absurd (same_out out out' h.2 r)
+write_rose (Some name) s t out out' (Refused f) h r = absurd (same_out out out' h.2 r)
+write_rose (Some name) s t out out' WriteFailed h r = refl
+write_rose (Some name) s t out out' NoMemory (inl h) r = absurd (same_out out out' h.1 r)
+write_rose (Some name) s t out out' NoMemory (inr h) r = let f : out'.faults ≡ out.faults = h.1.holds.faults in absurd (omega arith)
+write_rose (Some name) s t out out' (Written x) h r = absurd (took_out out out' _ h.1.holds.written r)
+
+same_refused : (s t : SinkState) → t ≡ s → s.refused < t.refused → ⊥
+same_refused s t e h = let f : t.refused ≡ s.refused = ap (λ (x : SinkState). x.refused) e in omega arith
+
+took_refused : (s t : SinkState) (text : List ℕ) → t ≡ took s text → s.refused < t.refused → ⊥
+took_refused s t text e h = let f : t.refused ≡ s.refused = ap (λ (x : SinkState). x.refused) e in omega arith
+
+-- where the count of puts that `out` refused for memory became greater, the status is 7
+pub memory_rose : (w : Option (List ℕ)) (s t : ShelfState) (out out' : SinkState) (o : Outcome) → HappensFor w s t out out' o → out.refused < out'.refused → status_at o ≡ 7
+memory_rose None s t out out' o h r = absurd (same_refused out out' h.2 r)
+memory_rose (Some name) s t out out' WordsRefused h r = absurd h
+memory_rose (Some name) s t out out' ReadFailed h r = absurd (same_refused out out' h.1 r)
+memory_rose (Some name) s t out out' TooLarge h r = absurd (same_refused out out' h.2 r)
+memory_rose (Some name) s t out out' (Refused f) h r = absurd (same_refused out out' h.2 r)
+memory_rose (Some name) s t out out' WriteFailed h r = let f : out'.refused ≡ out.refused = h.1.holds.refused in absurd (omega arith)
+memory_rose (Some name) s t out out' NoMemory h r = refl
+memory_rose (Some name) s t out out' (Written x) h r = absurd (took_refused out out' _ h.1.holds.written r)

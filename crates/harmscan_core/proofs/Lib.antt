@@ -1,0 +1,4 @@
+pub mod WordCounts
+pub mod Rows
+pub mod Causes
+pub mod Complete

@@ -1,0 +1,10 @@
+pub mod Expansion
+pub mod BusAdmittance
+pub mod Grounds
+pub mod Scan
+pub mod Report
+pub mod Texts
+pub mod Claim
+pub mod Words
+pub mod Lines
+pub mod Outcome

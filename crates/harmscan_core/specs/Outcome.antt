@@ -1,0 +1,103 @@
+-- What a run does to the shelf and the sinks, for each outcome.
+use Rattle.std.specs.Prelude.{◌≡◌, ◌≢◌, ◌⊎◌, ℕ, ◌<◌, List, length, Option, Some, None, IfSome, Result, Ok, Err}
+use Rattle.harm_io.specs.Shelves.{ShelfState, asked_too, FailsToFetch}
+use Rattle.harm_io.specs.Sinks.{SinkState, took, FailsToWrite, LacksMemory, Puts}
+use Rattle.harm_io.specs.declared.sink.PutFault.{PutFault}
+use Rattle.study_reader.specs.StudyOf.{IsStudy, Refused}
+use Rattle.study_model.specs.declared.records.Study.{Study}
+use Rattle.study_model.specs.declared.fault.StudyFault.{StudyFault}
+use Rattle.study_model.specs.declared.fault.StudyFault.TheVariants as fault
+use Rattle.harmscan_core.specs.Report.{report_text, report_status}
+use Rattle.harmscan_core.specs.Claim.{HoldsOfStudy}
+use Rattle.harmscan_core.specs.Lines.{line_at}
+use Rattle.harmscan_core.specs.declared.outcome.Outcome.{Outcome}
+use Rattle.harmscan_core.specs.declared.outcome.Outcome.TheVariants as outcome
+
+-- the longest file that is read, in bytes
+abbrev pub longest_file : ℕ
+longest_file = 4194304
+
+-- the bytes that were given for a file, which are those that the shelf tells, are a study with this property
+pub record GivenStudy (told : Option (List ℕ)) (P : Study → Type 0) : Type 0 where
+  pub bytes : List ℕ
+  pub given : IfSome told (λ b. bytes ≡ b)
+  pub study : Study
+  pub is : IsStudy bytes study
+  pub holds : P study
+
+-- they are refused for this fault
+pub record GivenRefusal (told : Option (List ℕ)) (f : StudyFault) : Type 0 where
+  pub bytes : List ℕ
+  pub given : IfSome told (λ b. bytes ≡ b)
+  pub no_memory : f ≢ fault.NoMemory
+  pub is : Refused bytes f
+
+-- what the reading of a study answers and leaves
+abbrev pub ReadsStudy : List ℕ → ShelfState → ShelfState → Result Study Outcome → Type 0
+ReadsStudy name before now (Ok study) = (now ≡ asked_too before name) × GivenStudy (before.file name) (λ s. s ≡ study)
+ReadsStudy name before now (Err outcome.ReadFailed) = FailsToFetch name before now
+ReadsStudy name before now (Err outcome.TooLarge) = (now ≡ asked_too before name) × IfSome (before.file name) (λ b. longest_file < length b)
+ReadsStudy name before now (Err (outcome.Refused f)) = (now ≡ asked_too before name) × GivenRefusal (before.file name) f
+ReadsStudy name before now (Err outcome.NoMemory) = (now ≡ before) ⊎ (now ≡ asked_too before name)
+ReadsStudy name before now (Err outcome.WordsRefused) = ⊥
+ReadsStudy name before now (Err outcome.WriteFailed) = ⊥
+ReadsStudy name before now (Err (outcome.Written s)) = ⊥
+
+-- the report of a study was written whole: all that it claims holds
+pub record IsReported (study : Study) (status : ℕ) (out out' : SinkState) : Type 0 where
+  pub status_is : status ≡ report_status study
+  pub written : out' ≡ took out (report_text study)
+  pub claim : HoldsOfStudy study
+
+-- what the writing of a study's report ends with and leaves
+abbrev pub Reports : Study → SinkState → SinkState → Outcome → Type 0
+Reports study out out' (outcome.Written s) = IsReported study s out out'
+Reports study out out' outcome.WriteFailed = FailsToWrite (report_text study) out out'
+Reports study out out' outcome.NoMemory = (out' ≡ out) ⊎ LacksMemory (report_text study) out out'
+Reports study out out' outcome.WordsRefused = ⊥
+Reports study out out' outcome.ReadFailed = ⊥
+Reports study out out' outcome.TooLarge = ⊥
+Reports study out out' (outcome.Refused f) = ⊥
+
+-- what one run does, for the file that its words name
+abbrev pub Happens : List ℕ → ShelfState → ShelfState → SinkState → SinkState → Outcome → Type 0
+Happens name shelf shelf' out out' outcome.WordsRefused = ⊥
+Happens name shelf shelf' out out' outcome.ReadFailed = FailsToFetch name shelf shelf' × (out' ≡ out)
+Happens name shelf shelf' out out' outcome.TooLarge = (shelf' ≡ asked_too shelf name) × IfSome (shelf.file name) (λ b. longest_file < length b) × (out' ≡ out)
+Happens name shelf shelf' out out' (outcome.Refused f) = (shelf' ≡ asked_too shelf name) × GivenRefusal (shelf.file name) f × (out' ≡ out)
+Happens name shelf shelf' out out' (outcome.Written s) = (shelf' ≡ asked_too shelf name) × GivenStudy (shelf.file name) (λ study. IsReported study s out out')
+Happens name shelf shelf' out out' outcome.WriteFailed = (shelf' ≡ asked_too shelf name) × GivenStudy (shelf.file name) (λ study. FailsToWrite (report_text study) out out')
+Happens name shelf shelf' out out' outcome.NoMemory =
+    (((shelf' ≡ shelf) ⊎ (shelf' ≡ asked_too shelf name)) × (out' ≡ out))
+    ⊎ ((shelf' ≡ asked_too shelf name) × GivenStudy (shelf.file name) (λ study. LacksMemory (report_text study) out out'))
+
+-- the same of any words
+abbrev pub HappensFor : Option (List ℕ) → ShelfState → ShelfState → SinkState → SinkState → Outcome → Type 0
+HappensFor None shelf shelf' out out' o = (o ≡ outcome.WordsRefused) × (shelf' ≡ shelf) × (out' ≡ out)
+HappensFor (Some name) shelf shelf' out out' o = Happens name shelf shelf' out out' o
+
+-- the status for an outcome
+abbrev pub status_at : Outcome → ℕ
+status_at outcome.WordsRefused = 1
+status_at outcome.ReadFailed = 5
+status_at outcome.TooLarge = 2
+status_at (outcome.Refused f) = 2
+status_at outcome.WriteFailed = 6
+status_at outcome.NoMemory = 7
+status_at (outcome.Written s) = s
+
+-- the line was put once, or nothing where there is none
+abbrev pub Says : Option (List ℕ) → SinkState → SinkState → Type 0
+Says None before now = now ≡ before
+Says (Some line) before now = (r : Result (Unit {0}) PutFault) × Puts line before now r
+
+-- The whole of a run: one outcome, its status, and its line.
+pub record Runs (words : Option (List ℕ)) (shelf shelf' : ShelfState) (out out' err err' : SinkState) (status : ℕ) : Type 0 where
+  pub answer : Outcome
+  pub shows : status ≡ status_at answer
+  pub happens : HappensFor words shelf shelf' out out' answer
+  pub says : Says (line_at answer) err err'
+
+-- the whole report and its status, or want of memory
+abbrev pub IsComplete : ℕ → SinkState → SinkState → Study → Type 0
+IsComplete status out out' study = (status ≡ 7) ⊎ IsReported study status out out'

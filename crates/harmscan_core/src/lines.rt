@@ -1,0 +1,79 @@
+// The lines on standard error.
+ghost use Rattle.std.specs.Prelude.{◌≡◌, ◌+◌, ◌≤◌, ◌++◌, length, Some, None, if◌then◌else◌};
+ghost use Rattle.harmscan_core.specs.Lines.{line_at, place_text, number_text, refusal_text};
+ghost use Rattle.harmscan_core.specs.Outcome.{Says};
+
+use crate::outcome::Outcome;
+use harm_io::Sink;
+use scan_report::LineBuf;
+use scan_report::line::push_number;
+use study_model::{Place, StudyFault};
+
+fn push_place(line: &mut LineBuf, place: Option<Place>)
+    requires { length line.old + 35 ≤ 256 }
+    ensures text { line.new ≡ line.old ++ place_text place }
+    ensures len { length line.new ≤ length line.old + 35 }
+{
+    if let Some(place) = place {
+        line.push(b' ');
+        line.push_text(place.section.text().as_bytes());
+        line.push(b' ');
+        push_number(line, place.entry);
+        line.push(b' ');
+        line.push_text(place.key.text().as_bytes());
+    }
+}
+
+fn push_fault_number(line: &mut LineBuf, number: Option<u32>)
+    requires { length line.old + 10 ≤ 256 }
+    ensures text { line.new ≡ line.old ++ number_text number }
+    ensures len { length line.new ≤ length line.old + 10 }
+{
+    if let Some(number) = number {
+        push_number(line, number);
+    }
+}
+
+/// A refusal: its number, its name and its place.
+#[tactic(auto, unfolding(crate::specs::Lines::refusal_text))]
+fn push_refusal(line: &mut LineBuf, fault: &StudyFault)
+    requires { length line.old + 62 ≤ 256 }
+    ensures text { line.new ≡ line.old ++ refusal_text fault.now }
+    ensures len { length line.new ≤ length line.old + 62 }
+{
+    push_fault_number(line, fault.number());
+    line.push(b' ');
+    line.push_text(fault.name().as_bytes());
+    push_place(line, fault.place());
+}
+
+/// Sets the line to that of an outcome, where it has one.
+fn set_line(outcome: &Outcome, line: &mut LineBuf) -> bool
+    ensures { (if result then Some line.new else None) ≡ line_at outcome.now }
+{
+    line.clear();
+    match outcome {
+        Outcome::WordsRefused => line.push_text(b"harmscan: words refused"),
+        Outcome::ReadFailed => line.push_text(b"harmscan: cannot read study"),
+        Outcome::TooLarge => line.push_text(b"harmscan: study too large"),
+        Outcome::Refused(fault) => {
+            line.push_text(b"harmscan: study refused: ");
+            push_refusal(line, fault);
+        }
+        Outcome::WriteFailed => line.push_text(b"harmscan: cannot write report"),
+        Outcome::NoMemory => line.push_text(b"harmscan: out of memory"),
+        Outcome::Written(_) => return false,
+    }
+    line.push(b'\n');
+    true
+}
+
+/// Says on standard error how a run ended. A failure of that changes nothing.
+pub fn say<E: Sink>(outcome: &Outcome, err: &mut E)
+    ensures { Says (line_at outcome.now) (E.state err.old) (E.state err.new) }
+{
+    let mut line = LineBuf::new();
+    if set_line(outcome, &mut line) {
+        let _ = err.put(line.as_bytes());
+    }
+}

@@ -1,0 +1,110 @@
+// From the words to the status.
+ghost use Rattle.std.specs.Prelude.{◌≡◌, ◌↔◌, ◌<◌, ◌≤◌, List, ℕ, length, IfOk, Some, None};
+ghost use Rattle.harm_io.specs.Causes.{Rose};
+ghost use Rattle.harm_io.specs.Memory.{names_of};
+ghost use Rattle.study_model.specs.declared.records.Study.{Study};
+ghost use Rattle.study_reader.specs.Built.{IsBuilt};
+ghost use Rattle.study_reader.specs.StudyOf.{IsStudy};
+ghost use Rattle.harmscan_core.specs.Words.{reading};
+ghost use Rattle.harmscan_core.specs.Outcome.{ReadsStudy, Reports, Happens, HappensFor, Runs, IsComplete, longest_file};
+
+use crate::lines::say;
+use crate::outcome::{Outcome, status};
+use crate::report::put_report;
+use crate::scan::walk_of;
+use crate::words::reading;
+use harm_io::{FetchFault, PutFault, Shelf, Sink};
+use std::alloc::Global;
+use study_model::{Study, StudyFault};
+use study_reader::read_study;
+
+/// The longest file that is read, in bytes.
+const LONGEST_FILE: u64 = 4_194_304;
+
+/// The study of a file.
+fn study_from<F: Shelf>(alloc: Global, name: &str, shelf: &mut F) -> Result<Study, Outcome>
+    ensures read { ReadsStudy name.now (F.state shelf.old) (F.state shelf.new) result }
+    ensures built { IfOk result IsBuilt }
+{
+    let bytes = match shelf.fetch(alloc, name, LONGEST_FILE) {
+        Ok(bytes) => bytes,
+        Err(FetchFault::Failed) => return Err(Outcome::ReadFailed),
+        Err(FetchFault::TooLarge(_)) => return Err(Outcome::TooLarge),
+        Err(FetchFault::NoMemory) => return Err(Outcome::NoMemory),
+    };
+    match read_study(alloc, &bytes) {
+        Ok(study) => Ok(study),
+        Err(StudyFault::NoMemory) => Err(Outcome::NoMemory),
+        Err(fault) => Err(Outcome::Refused(fault)),
+    }
+}
+
+/// The report of a study: all walks are made before its first line is put.
+fn report<O: Sink>(alloc: Global, study: &Study, out: &mut O) -> Outcome
+    requires { IsBuilt study.now }
+    ensures { Reports study.now (O.state out.old) (O.state out.new) result }
+{
+    let [scan] = study.scans.as_slice() else {
+        unreachable!()
+    };
+    match walk_of(alloc, study, scan) {
+        Err(_) => Outcome::NoMemory,
+        Ok(mut walk) => match put_report(study, scan, &mut walk, out) {
+            Ok(status) => Outcome::Written(status),
+            Err(PutFault::Failed) => Outcome::WriteFailed,
+            Err(PutFault::NoMemory) => Outcome::NoMemory,
+        },
+    }
+}
+
+/// The scan of a file.
+fn scan<F: Shelf, O: Sink>(alloc: Global, name: &str, shelf: &mut F, out: &mut O) -> Outcome
+    ensures { Happens name.now (F.state shelf.old) (F.state shelf.new) (O.state out.old) (O.state out.new) result }
+{
+    match study_from(alloc, name, shelf) {
+        Err(outcome) => outcome,
+        Ok(study) => report(alloc, &study, out),
+    }
+}
+
+/// What the words ask for.
+fn perform<F: Shelf, O: Sink>(
+    alloc: Global,
+    words: &[String],
+    shelf: &mut F,
+    out: &mut O,
+) -> Outcome
+    ensures { HappensFor (reading (names_of words.now)) (F.state shelf.old) (F.state shelf.new) (O.state out.old) (O.state out.new) result }
+{
+    match reading(words) {
+        Some(name) => scan(alloc, name, shelf, out),
+        None => Outcome::WordsRefused,
+    }
+}
+
+/// Runs the words of the command line, and answers the program's status. `words` are without the
+/// program's name; `scan STUDY` is the one reading.
+pub fn run<F: Shelf, O: Sink, E: Sink>(
+    alloc: Global,
+    words: &[String],
+    shelf: &mut F,
+    out: &mut O,
+    err: &mut E,
+) -> u8
+    // The whole of it: one outcome, with its status, its line and all that the shelf and the sinks saw.
+    ensures runs { Runs (reading (names_of words.now)) (F.state shelf.old) (F.state shelf.new) (O.state out.old) (O.state out.new)
+        (E.state err.old) (E.state err.new) result }
+    // What follows for single statuses.
+    ensures words { (result ≡ 1) ↔ (reading (names_of words.now) ≡ None) }
+    ensures read_fault { (F.state shelf.old).faults < (F.state shelf.new).faults → result ≡ 5 }
+    ensures write_fault { (O.state out.old).faults < (O.state out.new).faults → result ≡ 6 }
+    ensures write_memory { (O.state out.old).refused < (O.state out.new).refused → result ≡ 7 }
+    // A study that is told and accepted is reported whole where no fault came, unless memory is wanting.
+    ensures complete { (name bytes : List ℕ) (study : Study) → reading (names_of words.now) ≡ Some name → (F.state shelf.old).file name ≡ Some bytes
+        → length bytes ≤ longest_file → IsStudy bytes study → (Rose (F.state shelf.old).faults (F.state shelf.new).faults → ⊥)
+        → (Rose (O.state out.old).faults (O.state out.new).faults → ⊥) → IsComplete result (O.state out.old) (O.state out.new) study }
+{
+    let outcome = perform(alloc, words, shelf, out);
+    say(&outcome, err);
+    status(&outcome)
+}
