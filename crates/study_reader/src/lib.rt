@@ -1,0 +1,9 @@
+// A study, read from the bytes of a TOML document.
+#![tactic(auto)]
+
+mod arrays;
+mod entries;
+mod keys;
+mod study;
+
+pub use study::read_study;
