@@ -4,3 +4,6 @@ pub mod Left
 pub mod Walk
 pub mod Cover
 pub mod Split
+pub mod IntervalTest
+pub mod Testing
+pub mod Truth

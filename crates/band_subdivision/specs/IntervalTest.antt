@@ -1,0 +1,56 @@
+-- The interval test of one box of orders, by the reduced admittance of the driven node.
+use Rattle.std.specs.Prelude.{ℕ, ◌*◌, ◌/◌, ◌^◌, ℤ, pos, ◌*ℤ◌, ◌≤ℤ◌, ◌<ℤ◌, unsigned_abs, Bool, false, ◌&&◌, nat_le, nat_lt, if◌then◌else◌, Option, Some, None}
+use Rattle.exact_algebra.specs.Ratio.{Ratio, over}
+use Rattle.exact_fraction.specs.Scaled.{end_of, floor_scaled_of, ceil_scaled_of}
+use Rattle.exact_fraction.specs.Root.{root_ceil_of}
+use Rattle.complex_interval.specs.Boxes.{Box, low_square_sum, high_square_sum}
+use Rattle.band_subdivision.specs.Boxes.{BoxTest}
+use Rattle.band_subdivision.specs.declared.interval_test.ScanLevels.{ScanLevels}
+
+-- in range: a threshold from 10^-6 to below 10^6 ohms, 0.1 to 2000 kV, and 0.001 to 10000 MVA
+pub record AreScanLevels (levels : ScanLevels) : Type 0 where
+  pub threshold_low : pos 1 ≤ℤ levels.threshold
+  pub threshold_high : levels.threshold <ℤ pos (10 ^ 12)
+  pub kv_low : pos 100000 ≤ℤ levels.kv
+  pub kv_high : levels.kv ≤ℤ pos 2000000000
+  pub mva_low : pos 1000 ≤ℤ levels.mva
+  pub mva_high : levels.mva ≤ℤ pos 10000000000
+
+-- 1/T = v²/(threshold·s), for the threshold T per unit: the millionths cancel
+unfoldable pub inverse_threshold : ScanLevels → Ratio
+inverse_threshold levels = over (levels.kv *ℤ levels.kv) (unsigned_abs (levels.threshold *ℤ levels.mva))
+
+-- 1/T in units of 1 / 2^scale, rounded up
+unfoldable pub clear_bound : ℕ → ScanLevels → Option ℤ
+clear_bound scale levels = end_of (ceil_scaled_of (inverse_threshold levels) scale)
+
+-- the same, rounded down
+unfoldable pub above_bound : ℕ → ScanLevels → Option ℤ
+above_bound scale levels = end_of (floor_scaled_of (inverse_threshold levels) scale)
+
+-- v²/s ohms over a size whose square is at most `high` in units of 1 / 4^scale: in micro-ohms, rounded down
+unfoldable pub micro_ohms_of : ℕ → ScanLevels → ℕ → ℕ
+micro_ohms_of scale levels high = unsigned_abs levels.kv * unsigned_abs levels.kv * 2 ^ scale / (unsigned_abs levels.mva * root_ceil_of high)
+
+-- each number of the box is at least the bound in size
+abbrev pub is_clear_by : Option ℤ → Option Box → Bool
+is_clear_by (Some bound) (Some y) = nat_le (unsigned_abs bound * unsigned_abs bound) (low_square_sum y)
+is_clear_by (Some bound) None = false
+is_clear_by None y = false
+
+-- each number of the box is less than the bound in size, and none is zero
+abbrev pub is_above_by : ℤ → Box → Bool
+is_above_by bound y = nat_lt (high_square_sum y) (unsigned_abs bound * unsigned_abs bound) && nat_lt 0 (low_square_sum y)
+
+-- the micro-ohms of such a box
+abbrev pub ohms_above_by : ℕ → ScanLevels → Option ℤ → Option Box → Option ℤ
+ohms_above_by scale levels (Some bound) (Some y) = if is_above_by bound y then Some (pos (micro_ohms_of scale levels (high_square_sum y))) else None
+ohms_above_by scale levels (Some bound) None = None
+ohms_above_by scale levels None y = None
+
+-- the test of boxes by their reduced admittances: the impedance is within where each admittance is at least 1/T, and above where each is less and other than zero
+unfoldable pub interval_test : ℕ → ScanLevels → (ℕ → ℕ → Option Box) → BoxTest
+interval_test scale levels reduced = record {
+  clear = λ lo hi. is_clear_by (clear_bound scale levels) (reduced lo hi);
+  above = λ at. ohms_above_by scale levels (above_bound scale levels) (reduced at at);
+}
