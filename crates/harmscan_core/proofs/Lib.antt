@@ -2,3 +2,4 @@ pub mod WordCounts
 pub mod Rows
 pub mod Causes
 pub mod Complete
+pub mod BusReduction
