@@ -5,11 +5,12 @@ mod bus_admittance;
 mod counts;
 mod lines;
 mod outcome;
+mod perform;
 mod report;
-mod run;
+
 mod scan;
 mod values;
 mod words;
 
 pub use outcome::Outcome;
-pub use run::run;
+pub use perform::run;

@@ -5,8 +5,7 @@ ghost use Rattle.harmscan_core.specs.Outcome.{Says};
 
 use crate::outcome::Outcome;
 use harm_io::Sink;
-use scan_report::LineBuf;
-use scan_report::line::push_number;
+use scan_report::{LineBuf, push_number};
 use study_model::{Place, StudyFault};
 
 fn push_place(line: &mut LineBuf, place: Option<Place>)

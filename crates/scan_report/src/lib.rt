@@ -7,5 +7,5 @@ mod line;
 mod rows;
 
 pub use boxes::{BoxRow, Kind};
-pub use line::LineBuf;
+pub use line::{LineBuf, push_number};
 pub use rows::{BoxWord, NetWord, Row, box_row, end_row, scan_row, summary_row};

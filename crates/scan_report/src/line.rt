@@ -87,7 +87,7 @@ fn push_digits(line: &mut LineBuf, number: u128)
 
 /// A number of 32 bits in decimal digits.
 #[tactic(auto, using(crate::proofs::Digits::digits_steps))]
-pub(crate) fn push_number(line: &mut LineBuf, number: u32)
+pub fn push_number(line: &mut LineBuf, number: u32)
     requires { length line.old + 10 ≤ 256 }
     ensures text { line.new ≡ line.old ++ decimal number }
     ensures len { length line.new ≤ length line.old + 10 }

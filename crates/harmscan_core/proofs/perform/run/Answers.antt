@@ -2,7 +2,7 @@ use Rattle.std.proofs.Common.{◌∙◌, sym, ℕ, subst}
 use Rattle.harmscan_core.specs.Outcome.{IsComplete}
 use Rattle.harmscan_core.proofs.Complete.{complete_for}
 use Rattle.harmscan_core.proofs.Causes.{read_rose, write_rose, memory_rose, words_refused, words_none}
-use Rattle.harmscan_core.proofs.run.run.Goals as goal
+use Rattle.harmscan_core.proofs.perform.run.Goals as goal
 
 pub returns-clause-read_fault : goal.returns-clause-read_fault
 returns-clause-read_fault g c = λ r. c.status.ensures ∙ read_rose _ _ _ _ _ _ c.perform-outcome.ensures r
