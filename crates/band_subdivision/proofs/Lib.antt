@@ -3,3 +3,8 @@ pub mod Levels
 pub mod Splits
 pub mod Covering
 pub mod TestSteps
+pub mod Comparisons
+pub mod LevelValues
+pub mod Sound
+pub mod Truths
+pub mod Texts

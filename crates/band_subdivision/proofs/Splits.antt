@@ -1,5 +1,5 @@
 -- Each box of a band comes out of it.
-use Rattle.std.proofs.Common.{◌≡◌, ℕ, zero, suc, ◌+◌, ◌-◌, ◌<◌, ◌≤◌, Bool, true, false, cond, nat_le, List, [], ◌∷◌, ◌++◌, Option, Some, None, ℤ, refl, subst, sym, arith}
+use Rattle.std.proofs.Common.{◌≡◌, ℕ, zero, suc, ◌-◌, ◌<◌, ◌≤◌, Bool, true, false, cond, nat_le, List, [], ◌∷◌, ◌++◌, Option, Some, None, ℤ, refl, arith}
 use Rattle.std.specs.List.{AllByRecursion}
 use Rattle.std.proofs.lemmas.Bool.Decides.{nat_tests}
 use Rattle.band_subdivision.specs.Boxes.{BoxTest, Widths, middle, kind_of, peak_of, peak_or, settled, boxes_within, boxes_of}
@@ -7,7 +7,7 @@ use Rattle.band_subdivision.specs.Split.{NamesNoPeak, IsSplit, ComesFrom, itself
 use Rattle.band_subdivision.proofs.Levels.{kind_none, peak_or_none}
 use Rattle.scan_report.specs.declared.boxes.BoxRow.{BoxRow}
 use Rattle.scan_report.specs.declared.boxes.Kind.{Kind}
-use Rattle.scan_report.specs.declared.boxes.Kind.TheVariants.{Cleared, Undecided}
+use Rattle.scan_report.specs.declared.boxes.Kind.TheVariants.{Cleared}
 
 -- where no peak is named and nothing else comes, the test finds none
 peak_or_absent : (at : ℕ) (found : Option ℤ) (other : Option Kind) → peak_or at found other ≡ None → found ≡ None
@@ -50,7 +50,7 @@ all_both : {A : Type 0} (P : A → Type 0) (xs ys : List A) → AllByRecursion P
 all_both P [] ys h k = k
 all_both P (x ∷ xs) ys h k = (h.0, all_both P xs ys h.1 k)
 
-all_along : {A : Type 0} (P Q : A → Type 0) (xs : List A) → ((x : A) → P x → Q x) → AllByRecursion P xs → AllByRecursion Q xs
+pub all_along : {A : Type 0} (P Q : A → Type 0) (xs : List A) → ((x : A) → P x → Q x) → AllByRecursion P xs → AllByRecursion Q xs
 all_along P Q [] f h = tt
 all_along P Q (x ∷ xs) f h = (f x h.0, all_along P Q xs f h.1)
 

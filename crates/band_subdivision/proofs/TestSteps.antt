@@ -9,7 +9,6 @@ use Rattle.complex_interval.specs.Ends.{Ends, zero_between, mig_of, mag_of}
 use Rattle.complex_interval.specs.Boxes.{Box, low_square_sum, high_square_sum}
 use Rattle.exact_fraction.specs.Fraction.{ratio_of}
 use Rattle.exact_fraction.specs.declared.fraction.Fraction.{Fraction}
-use Rattle.exact_fraction.specs.Root.{root_ceil_of}
 use Rattle.exact_fraction.proofs.Roots.{root_ceil_only}
 use Rattle.band_subdivision.specs.IntervalTest.{AreScanLevels, inverse_threshold, micro_ohms_of}
 use Rattle.band_subdivision.specs.declared.interval_test.ScanLevels.{ScanLevels}

@@ -7,3 +7,4 @@ pub mod Split
 pub mod IntervalTest
 pub mod Testing
 pub mod Truth
+pub mod BoxText

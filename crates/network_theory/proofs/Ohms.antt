@@ -66,7 +66,7 @@ backward u w i s v z S e1 e2 e3 h =
     not_negative_square : (c : Ratio) → NotNegative (times c c)
     not_negative_square c = ratio_order.along (square_size-real c) (square_size-not_negative (real c))
 
-ohms_square : (kv mva : Ratio) (Z : Complex) → square_size (in_ohms kv mva Z) ≈ times (square_size Z) (times (times (times kv kv) (reciprocal mva)) (times (times kv kv) (reciprocal mva)))
+pub ohms_square : (kv mva : Ratio) (Z : Complex) → square_size (in_ohms kv mva Z) ≈ times (square_size Z) (times (times (times kv kv) (reciprocal mva)) (times (times kv kv) (reciprocal mva)))
 unfolding in_ohms
 ohms_square kv mva Z =
     let c = times (times kv kv) (reciprocal mva) in

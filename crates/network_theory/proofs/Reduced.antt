@@ -19,7 +19,7 @@ open complex_field use {next}
 abbrev C : Type 0
 C = Complex
 
-times_inverse : (y : C) → ¬ (y ≈ nought) → inverse y ⊗ y ≈ unit
+pub times_inverse : (y : C) → ¬ (y ≈ nought) → inverse y ⊗ y ≈ unit
 times_inverse y apart = next (complex_field.mul_comm (inverse y) y) (complex_field.mul_inverse y apart)
 
 -- a reduced value other than zero gives the impedance, its inverse
