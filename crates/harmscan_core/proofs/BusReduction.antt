@@ -102,17 +102,18 @@ sum_encloses s order h [] sum r z ho held e = record {
   admittances = tt;
   holds = along s r z (z ⊕ nought) (ring R (z ∷ []) (search reads depth 40 fits 4000) none_left) (held r e);
 }
-sum_encloses s order h (b ∷ bs) sum r z ho held e = go (added sum (ground_box s order (ground_ends s b.law))) refl e
+sum_encloses s order h (b ∷ bs) sum r z ho held e =
+    go (added sum (ground_box s order (ground_ends s b.law))) refl e (λ a w all f. sum_encloses s order h bs (Some a) r w ho all f)
   where
-    go : (next : Option Box) → added sum (ground_box s order (ground_ends s b.law)) ≡ next → summed s order next (grounds_of s bs) ≡ Some r → HeldSum s h (b ∷ bs) z r
-    go None q f = absurd (summed-none s order (grounds_of s bs) r f)
-    go (Some a) q f =
+    go : (next : Option Box) → added sum (ground_box s order (ground_ends s b.law)) ≡ next → summed s order next (grounds_of s bs) ≡ Some r
+        → ((a : Box) (w : Complex) → ((c : Box) → Some a ≡ Some c → EnclosesComplex s c w) → summed s order (Some a) (grounds_of s bs) ≡ Some r → HeldSum s h bs w r) → HeldSum s h (b ∷ bs) z r
+    go None q f more = absurd (summed-none s order (grounds_of s bs) r f)
+    go (Some a) q f more =
         let (before, one, e1, e2, e3) = added-some sum (ground_box s order (ground_ends s b.law)) a q in
         let (y, is, has) = ground_encloses s b.law order one h ho e2 in
-        let P : Option Box → Type 0 = λ o. (c : Box) → o ≡ Some c → EnclosesComplex s c (z ⊕ y) in
         let here : EnclosesComplex s a (z ⊕ y) = add_encloses_box s before one a z y (held before e1) has e3 in
         let all : (c : Box) → Some a ≡ Some c → EnclosesComplex s c (z ⊕ y) = λ (c : Box) (i : Some a ≡ Some c). let same : a ≡ c = cc in subst (λ (t : Box). EnclosesComplex s t (z ⊕ y)) same here in
-        let rest = sum_encloses s order h bs (Some a) r (z ⊕ y) ho all f in
+        let rest : HeldSum s h bs (z ⊕ y) r = more a (z ⊕ y) all f in
         record {
           ys = y ∷ rest.ys;
           admittances = (is, rest.admittances);

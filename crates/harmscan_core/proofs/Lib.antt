@@ -3,3 +3,4 @@ pub mod Rows
 pub mod Causes
 pub mod Complete
 pub mod BusReduction
+pub mod InPerUnit

@@ -1,7 +1,7 @@
 -- Rows that are written one after another.
-use Rattle.std.proofs.Common.{◌≡◌, ℕ, ◌+◌, ◌≤◌, List, ◌∷◌, Err, refl, subst, arith}
+use Rattle.std.proofs.Common.{◌≡◌, ℕ, ◌+◌, ◌≤◌, List, [], ◌∷◌, Err, refl, subst, arith}
 use Rattle.harm_io.specs.Sinks.{SinkState, took, Writes}
-use Rattle.harm_io.proofs.Writing.{WroteFront, front_next, front_stop}
+use Rattle.harm_io.proofs.Writing.{WroteFront, front_next, front_stop, front_end}
 use Rattle.harm_io.specs.declared.sink.PutFault.{PutFault}
 use Rattle.scan_report.specs.Rows.{row_text}
 use Rattle.scan_report.specs.declared.boxes.BoxRow.{BoxRow}
@@ -38,3 +38,8 @@ pub count_grows : (k : Kind) (c : Counts) → Counts≤ c (count_more k c)
 count_grows Cleared c = record { boxes = refl; cleared = omega arith; peaks = omega arith; undecided = omega arith }
 count_grows (Peak at ohms) c = record { boxes = refl; cleared = omega arith; peaks = omega arith; undecided = omega arith }
 count_grows Undecided c = record { boxes = refl; cleared = omega arith; peaks = omega arith; undecided = omega arith }
+
+-- no more boxes are left
+pub boxes_end : (before now : SinkState) (n : ℕ) (left : List BoxRow) (whole : List ℕ) → left ≡ [] → WroteFront before now (boxes_text n left) whole → now ≡ took before whole
+unfolding boxes_text
+boxes_end before now n left whole e h = front_end before now whole (subst (λ (l : List BoxRow). WroteFront before now (boxes_text n l) whole) e h)

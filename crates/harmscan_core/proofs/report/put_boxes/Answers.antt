@@ -4,7 +4,7 @@ use Rattle.harmscan_core.specs.declared.counts.Counts.{Counts}
 use Rattle.harmscan_core.specs.Report.{HasText, counted}
 use Rattle.harmscan_core.specs.Texts.{boxes_text}
 use Rattle.std.specs.List.{AllByRecursion}
-use Rattle.harmscan_core.proofs.Rows.{Counts≤, boxes_next, boxes_stop, count_grows}
+use Rattle.harmscan_core.proofs.Rows.{Counts≤, boxes_next, boxes_stop, boxes_end, count_grows}
 use Rattle.harm_io.proofs.Writing.{WroteFront}
 use Rattle.harmscan_core.proofs.report.put_boxes.Goals as goal
 
@@ -34,3 +34,8 @@ returns-in-Err-clause-wrote g c =
     boxes_stop (Unit {0}) Counts (g.O.Sink.state c.args.out.now) (g.O.Sink.state c.boxes.out) (g.O.Sink.state c.put_box.new.out) (c.boxes.counts.boxes + 1)
     c.boxes.walk.left c.in-Some.found c.next_box.new.self.left (boxes_text 1 c.args.walk.now.left) c.in-Err.fault
     c.in-Some.ensures.next c.boxes.invariant.wrote c.in-Err.ensures
+
+pub returns-clause-wrote : goal.returns-clause-wrote
+returns-clause-wrote g c =
+    boxes_end (g.O.Sink.state c.args.out.now) (g.O.Sink.state c.boxes.out) (c.boxes.counts.boxes + 1) c.boxes.walk.left (boxes_text 1 c.args.walk.now.left)
+    c.in_default.ensures.none.0 c.boxes.invariant.wrote
