@@ -1,11 +1,13 @@
 -- The systems worked by hand.
 use Rattle.std.proofs.Common.{pos, negsuc, ◌≡◌, List, [], ◌∷◌, length, refl, arith}
+use Rattle.std.specs.List.{AllZip}
 use Rattle.exact_algebra.specs.Ratio.{Ratio, ◌≈◌, over, whole, ratio_numbers, den, common, plus, times, opposite, magnitude, reciprocal, reciprocal_of}
 use Rattle.exact_algebra.specs.Complex.{Complex, complex_numbers, complex_over, complex_whole, complex_plus, complex_times, complex_size, real_part, imaginary_part, ◌≅◌}
 use Rattle.exact_algebra.proofs.Ratios.{ratio_field, ratio_ring}
 use Rattle.exact_algebra.proofs.Complexes.{complex_field}
 use Rattle.exact_algebra.proofs.Reader.{reads, linear, weigh, join, none_left}
 use Rattle.linear_systems.specs.Linear.{dot, Annuls, IsSquare, HasPivots, complement, IsComplement, IsDriven, Solves}
+use Rattle.linear_systems.specs.Doubled.{parts_of, real_rows}
 use Rattle.linear_systems.specs.Worked.{regular_rows, singular_rows, front_zero_rows, RegularSystem, RegularStep, RegularComplement, SingularSystem, FrontZeroSystem, ResidualSums, ComplexSystem, WorkedSystems}
 use Rattle.linear_systems.proofs.Complement as C
 use Rattle.linear_systems.proofs.Driving as D
@@ -162,11 +164,20 @@ solves_corner : dot complex_numbers (complex_over (pos 1) (pos 1) 1 ∷ []) (com
 unfolding complex_whole complex_plus complex_times real_part imaginary_part den
 solves_corner = record { re = record { cross = refl }; im = record { cross = refl } }
 
+-- the rows (1, -1) and (1, 1) of 1 + j
+corner_as_real : AllZip (λ r s. AllZip ◌≈◌ r s) (real_rows one_row) ((whole (pos 1) ∷ whole (negsuc 0) ∷ []) ∷ (whole (pos 1) ∷ whole (pos 1) ∷ []) ∷ [])
+unfolding whole den opposite real_part imaginary_part
+corner_as_real = ((record { cross = refl }, (record { cross = refl }, tt)), ((record { cross = refl }, (record { cross = refl }, tt)), tt))
+
+parts_of_two : AllZip ◌≈◌ (parts_of (complex_whole (pos 2) ∷ [])) (whole (pos 2) ∷ whole (pos 0) ∷ [])
+unfolding whole complex_whole den real_part imaginary_part
+parts_of_two = (record { cross = refl }, (record { cross = refl }, tt))
+
 complex_system : ComplexSystem
 complex_system =
     let d = D.driven complex_numbers complex_field 0 one_row (complex_over (pos 1) (pos 1) 1) refl (C.reduction_holds complex_numbers complex_field 0 one_row square_one tt) corner_apart in
     let one = S.injective_is_solvable complex_numbers complex_field 1 one_row (complex_whole (pos 2) ∷ []) square_one d.injective refl in
-    record { one = one; values = one.only (complex_over (pos 1) (negsuc 0) 1 ∷ []) refl (solves_corner, tt) }
+    record { one = one; values = one.only (complex_over (pos 1) (negsuc 0) 1 ∷ []) refl (solves_corner, tt); as_real = corner_as_real; right_parts = parts_of_two }
 
 pub worked_systems : WorkedSystems
 worked_systems = record {

@@ -4,6 +4,7 @@ use Rattle.std.specs.List.{AllZip, AllByRecursion}
 use Rattle.exact_algebra.specs.Ratio.{Ratio, ◌≈◌, over, whole, ratio_numbers}
 use Rattle.exact_algebra.specs.Complex.{complex_numbers, complex_size, complex_over, complex_whole, ◌≅◌}
 use Rattle.linear_systems.specs.Linear.{head_of, factor, shrink, shrink_right, IsSquare, IsInjective, HasOneSolution, HasOtherSolution, HasPivots, complement, IsComplement, IsDriven, Solves}
+use Rattle.linear_systems.specs.Doubled.{parts_of, real_rows}
 use Rattle.linear_systems.specs.Residual.{residuals, unit_rows, sum_sizes}
 
 -- the rows (2, 1) and (1, 2)
@@ -65,10 +66,15 @@ pub record ResidualSums : Type 0 where
   -- and for complex numbers a row's sum adds the sizes of both parts: 3/2 and 2 of (1 - 2j)/2 and 2j
   pub sizes : sum_sizes complex_numbers ratio_numbers complex_size (complex_over (pos 1) (negsuc 1) 2 ∷ complex_over (pos 0) (pos 2) 1 ∷ []) ≈ over (pos 7) 2
 
--- (1 + j) x = 2 has the one solution 1 - j
+-- (1 + j) x = 2
 pub record ComplexSystem : Type 0 where
   pub one : HasOneSolution complex_numbers 1 ((complex_over (pos 1) (pos 1) 1 ∷ []) ∷ []) (complex_whole (pos 2) ∷ [])
+  -- x = 1 - j
   pub values : AllZip ◌≅◌ (complex_over (pos 1) (negsuc 0) 1 ∷ []) one.solution
+  -- as a real system: u - v = 2 and u + v = 0
+  pub as_real : AllZip (λ r s. AllZip ◌≈◌ r s) (real_rows ((complex_over (pos 1) (pos 1) 1 ∷ []) ∷ []))
+      ((whole (pos 1) ∷ whole (negsuc 0) ∷ []) ∷ (whole (pos 1) ∷ whole (pos 1) ∷ []) ∷ [])
+  pub right_parts : AllZip ◌≈◌ (parts_of (complex_whole (pos 2) ∷ [])) (whole (pos 2) ∷ whole (pos 0) ∷ [])
 
 -- all of these
 pub record WorkedSystems : Type 0 where
