@@ -6,7 +6,7 @@ use Rattle.exact_algebra.specs.Complex.{Complex, complex_numbers, complex_over, 
 use Rattle.exact_algebra.proofs.Ratios.{ratio_field, ratio_ring}
 use Rattle.exact_algebra.proofs.Complexes.{complex_field}
 use Rattle.exact_algebra.proofs.Reader.{reads, linear, weigh, join, none_left}
-use Rattle.linear_systems.specs.Linear.{dot, Annuls, IsSquare, HasPivots, complement, IsComplement, IsDriven, Solves}
+use Rattle.linear_systems.specs.Linear.{shrink, dot, Annuls, IsSquare, HasPivots, complement, IsComplement, IsDriven, Solves}
 use Rattle.linear_systems.specs.Doubled.{parts_of, real_rows}
 use Rattle.linear_systems.specs.Worked.{regular_rows, singular_rows, front_zero_rows, RegularSystem, RegularStep, RegularComplement, SingularSystem, FrontZeroSystem, ResidualSums, ComplexSystem, WorkedSystems}
 use Rattle.linear_systems.proofs.Complement as C
@@ -111,6 +111,10 @@ unsolved (a ∷ b ∷ []) l s =
     (search reads depth 40 fits 4000) none_left)
 unsolved (a ∷ b ∷ c ∷ x) l s = absurd (omega arith)
 
+singular_smaller : AllZip ◌≈◌ (shrink ratio_numbers (whole (pos 1) ∷ whole (pos 2) ∷ []) (whole (pos 2) ∷ whole (pos 4) ∷ [])) (whole (pos 0) ∷ [])
+unfolding whole den common plus times opposite reciprocal reciprocal_of
+singular_smaller = (record { cross = refl }, tt)
+
 singular_system : SingularSystem
 singular_system = record {
   square = square_two _ _ _ _;
@@ -122,6 +126,7 @@ singular_system = record {
   };
   values = refl;
   not_injective = λ i. two_apart (i.only (whole (pos 2) ∷ whole (negsuc 0) ∷ []) refl annuls_singular).0;
+  smaller = singular_smaller;
   unsolved = unsolved;
 }
 

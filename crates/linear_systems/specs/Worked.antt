@@ -49,6 +49,8 @@ pub record SingularSystem : Type 0 where
   pub other : HasOtherSolution ratio_numbers 2 singular_rows
   pub values : other.list ≡ whole (pos 2) ∷ whole (negsuc 0) ∷ []
   pub not_injective : ¬ IsInjective ratio_numbers 2 singular_rows
+  -- the second row less twice the first leaves 0
+  pub smaller : AllZip ◌≈◌ (shrink ratio_numbers (whole (pos 1) ∷ whole (pos 2) ∷ []) (whole (pos 2) ∷ whole (pos 4) ∷ [])) (whole (pos 0) ∷ [])
   pub unsolved : (x : List Ratio) → length x ≡ 2 → ¬ Solves ratio_numbers singular_rows x (whole (pos 1) ∷ whole (pos 0) ∷ [])
 
 -- rows that all begin with zero are zero at (1, 0)

@@ -17,3 +17,4 @@ pub mod Laws
 pub mod Extra
 pub mod Phases
 pub mod Figures
+pub mod Cases
