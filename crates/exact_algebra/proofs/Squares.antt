@@ -1,6 +1,6 @@
 -- The squares of sizes: of products, along equality, and of reciprocals.
 use Rattle.std.proofs.Common.{◌≡◌, suc, ◌*◌, ◌+◌, ◌-◌, ℤ, pos, negsuc, ◌+ℤ◌, ◌*ℤ◌, ◌-ℤ◌, nat_abs, refl, ap, ap₂, ◌∙◌, arith, [], ◌∷◌}
-use Rattle.exact_algebra.specs.Ratio.{den, ◌≈◌, times, whole}
+use Rattle.exact_algebra.specs.Ratio.{den, ◌≈◌, plus, times, whole}
 use Rattle.exact_algebra.specs.Complex.{Complex, ◌≅◌, real_part, imaginary_part, complex_numbers, complex_times, complex_whole, square_size}
 use Rattle.exact_algebra.proofs.Reader.{reads, ring, linear, weigh, join, none_left}
 use Rattle.exact_algebra.proofs.Integers.{int_ring}
@@ -23,6 +23,18 @@ im-product z w = refl
 den-product : (z w : Complex) → den (real_part (complex_times z w)) ≡ den (real_part z) *ℤ den (real_part w)
 unfolding complex_times den real_part
 den-product z w = let k : suc (suc z.den_less_one * suc w.den_less_one - 1) ≡ suc z.den_less_one * suc w.den_less_one = omega arith in ap pos k
+
+num-real_part : (z : Complex) → (real_part z).num ≡ z.re
+unfolding real_part
+num-real_part z = refl
+
+num-imaginary_part : (z : Complex) → (imaginary_part z).num ≡ z.im
+unfolding imaginary_part
+num-imaginary_part z = refl
+
+den-imaginary : (z : Complex) → den (imaginary_part z) ≡ den (real_part z)
+unfolding den real_part imaginary_part
+den-imaginary z = refl
 
 ruleset squares = (ratio_parts, num-square_size, den-square, re-product, im-product, den-product)
 
@@ -47,6 +59,10 @@ square_size-along z w e =
           (join int_ring (weigh int_ring (z.re *ℤ f +ℤ w.re *ℤ d) (cross-re z w e)) (weigh int_ring (z.im *ℤ f +ℤ w.im *ℤ d) (cross-im z w e)))
           (search reads depth 40 fits 8000) none_left);
     }
+
+-- the square of the size is the sum of the squares of both parts
+pub square_size-parts : (z : Complex) → square_size z ≈ plus (times (real_part z) (real_part z)) (times (imaginary_part z) (imaginary_part z))
+square_size-parts z = record { cross = simp (squares, den-imaginary, num-real_part, num-imaginary_part) (ring int_ring (z.re ∷ z.im ∷ den (real_part z) ∷ []) (search reads depth 40 fits 4000) none_left) }
 
 re-whole : (n : ℤ) → (complex_whole n).re ≡ n
 unfolding complex_whole

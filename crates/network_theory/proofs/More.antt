@@ -63,7 +63,7 @@ dead_part network part dead n n' l = next (part_entry-is part n n') (none part d
     none (Alone b y) d = one _ _ (at_dead b (d b (0, omega arith, refl)))
     none (Group a b c Y) d = three _ _ _ _ _ _ (at_dead a (d a (0, omega arith, refl))) (at_dead b (d b (1, omega arith, refl))) (at_dead c (d c (2, omega arith, refl)))
 
-up_to : (x : Ratio) → x ≼ x
+pub up_to : (x : Ratio) → x ≼ x
 up_to x = record { cross = ≤ℤ_refl _ }
 
 taps_up_to : (ts : List Tap) → AllZip TapUpTo ts ts

@@ -18,3 +18,4 @@ pub mod Laws
 pub mod Extra
 pub mod Phases
 pub mod Figures
+pub mod Cases

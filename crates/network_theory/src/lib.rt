@@ -4,6 +4,7 @@
 ghost use Rattle.network_theory.specs.Laws.{LiveIsLeast, PlainResistance, OneImpedance, StateSolves, InjectiveNodal, SolvedState, ReducedImpedance, Cleared, Peak, SplitAdmittances, GroupAdmittance, StateCurrents, DeadPart, BetweenItself, LiveIsNode, WithinOhms};
 ghost use Rattle.network_theory.specs.Phases.{CoupledPhases, BehindRatio};
 ghost use Rattle.network_theory.specs.Figures.{WorkedFigures};
+ghost use Rattle.network_theory.specs.Cases.{WorkedCases};
 ghost use Rattle.network_theory.specs.Extra.{ExtraShunt};
 ghost use Rattle.network_theory.specs.OneNode.{OneNodeReduced};
 ghost use Rattle.network_theory.specs.OneBus.{SeriesAlone, BesideShunt, AtThreeAndAQuarter, NoneAtFive};
@@ -131,4 +132,9 @@ pub fn within_ohms()
 /// Figures worked by hand.
 pub fn worked_figures()
     ensures law { WorkedFigures }
+{}
+
+/// Boxes, thresholds, networks and scans worked by hand.
+pub fn worked_cases()
+    ensures law { WorkedCases }
 {}
