@@ -1,7 +1,7 @@
 -- The intervals between two lists of values of a series branch hold each value between.
-use Rattle.std.proofs.Common.{◌≡◌, ◌∙◌, sym, subst, ℕ, suc, arith, Bool, true, false, Option}
+use Rattle.std.proofs.Common.{◌≡◌, ◌∙◌, sym, subst, ℕ, suc, arith, Bool, true, Option}
 use Rattle.std.proofs.lemmas.Int.{ints}
-use Rattle.std.specs.Prelude.{Some, IsTrue, ◌&&◌, ℤ, pos, ◌*ℤ◌, ◌≤ℤ◌}
+use Rattle.std.specs.Prelude.{Some, ◌&&◌, pos, ◌≤ℤ◌}
 use Rattle.exact_algebra.specs.Ratio.{Ratio, den, ◌≈◌, ◌≼◌, whole}
 use Rattle.exact_algebra.proofs.Differences.{products}
 use Rattle.exact_algebra.proofs.Ratios.{num_nought}
@@ -12,7 +12,7 @@ use Rattle.complex_interval.proofs.Ranges.{range_encloses}
 use Rattle.admittance_box.specs.declared.series.SeriesValues.{SeriesValues}
 use Rattle.admittance_box.specs.Admittance.{SeriesEnds}
 use Rattle.admittance_box.specs.Held.{HoldsSeries}
-use Rattle.admittance_box.specs.Series.{ends_between, is_nought, IsBetween, HoldsBetween}
+use Rattle.admittance_box.specs.Series.{ends_between, is_nought, HoldsBetween}
 use Rattle.admittance_box.proofs.Steps.{bind-some, if_some}
 
 -- what lies between 0 and 0 is 0

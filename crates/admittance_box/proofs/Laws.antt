@@ -1,18 +1,18 @@
 -- What the admittance of a branch on pairs of ends holds. These laws know nothing of the trait of intervals.
 use Rattle.std.proofs.Common.{◌≡◌, ℕ, refl, sym, subst, ◌∙◌, Bool, true, false, Option, pos}
-use Rattle.std.specs.Prelude.{Some, None, IfSome, IsTrue, ◌==◌, ◌&&◌, if◌then◌else◌, nat_le}
+use Rattle.std.specs.Prelude.{Some, None, IsTrue, ◌==◌, ◌&&◌, if◌then◌else◌, nat_le}
 use Rattle.exact_algebra.specs.Ratio.{Ratio, ◌≈◌, times, whole, reciprocal}
-use Rattle.exact_algebra.specs.Complex.{Complex, ◌≅◌, complex_times, complex_whole, complex_reciprocal, ◌+j◌}
+use Rattle.exact_algebra.specs.Complex.{Complex, ◌≅◌, complex_whole, complex_reciprocal, ◌+j◌}
 use Rattle.exact_algebra.proofs.Complexes.{complex_field, re-complex_whole, im-complex_whole}
 use Rattle.exact_algebra.proofs.Holding.{holds_along}
 use Rattle.exact_algebra.proofs.Quotients.{quotient_is}
 use Rattle.exact_algebra.proofs.Ratios.{ratio_ring, times_reciprocal}
 use Rattle.exact_algebra.proofs.Reals.{re-plus_j, im-plus_j}
-use Rattle.complex_interval.specs.Ends.{Ends, Encloses, zero_between, mig_of, add_ends, sub_ends, mul_ends, div_ends, square_ends}
+use Rattle.complex_interval.specs.Ends.{Ends, Encloses, zero_between, mig_of, div_ends}
 use Rattle.complex_interval.specs.Boxes.{Box, EnclosesComplex, div_boxes, div_along, div_across}
 use Rattle.complex_interval.proofs.BoxLaws.{div_side, apart_of, div_encloses_box}
 use Rattle.complex_interval.proofs.Held.{outside, add_encloses, sub_encloses, mul_encloses, div_encloses, square_encloses}
-use Rattle.network_theory.specs.Order.{Order, IsOrder, fraction}
+use Rattle.network_theory.specs.Order.{Order, fraction}
 use Rattle.network_theory.specs.Admittance.{IsAdmittance}
 use Rattle.network_theory.specs.Branch.{Series}
 use Rattle.network_theory.specs.Impedance.{resistance, reactance, series_impedance, shunt_admittance}

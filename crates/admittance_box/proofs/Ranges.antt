@@ -1,17 +1,15 @@
 -- The ends of the exact 1 and of a box of orders.
-use Rattle.std.proofs.Common.{◌≡◌, ℕ, suc, ◌+◌, ◌-◌, ◌*◌, ◌^◌, ◌≤◌, ◌<◌, ap, ap₂, ◌∙◌, arith, true, Option, ℤ, pos, neg_ℤ, ◌≤ℤ◌, ◌<ℤ◌, ◌*ℤ◌}
-use Rattle.std.specs.Prelude.{Some, unsigned_abs, nat_le, ◌&&◌}
+use Rattle.std.proofs.Common.{◌≡◌, ℕ, suc, ◌-◌, ◌*◌, ◌^◌, ◌≤◌, ap, ap₂, ◌∙◌, arith, true, Option, ℤ, pos, neg_ℤ, ◌≤ℤ◌, ◌<ℤ◌}
+use Rattle.std.specs.Prelude.{Some, unsigned_abs}
 use Rattle.std.proofs.Math.Nat.{pow-le-pow_right, mul-le-mul_left}
 use Rattle.std.proofs.lemmas.Bool.Decides.{nat_tests}
 use Rattle.std.proofs.lemmas.Int.{ints}
-use Rattle.std.proofs.lemmas.Nat.{pow_pos}
 use Rattle.exact_algebra.specs.Floor.{floor_div, ceil_div}
 use Rattle.exact_algebra.specs.Ratio.{Ratio, over, den, whole, ◌≼◌}
 use Rattle.exact_algebra.proofs.WholeOrder.{floor_div_le, floor_div_greatest, floor_div-is, ceil_div_least, ceil_div_ge}
 use Rattle.complex_interval.specs.Ends.{Ends, Encloses, is_end, ends_in_range, range_ends}
 use Rattle.complex_interval.proofs.Ranges.{floor_at_most, ceil_at_least}
 use Rattle.network_theory.specs.Order.{Order, IsOrder, fraction}
-use Rattle.network_theory.specs.Box.{LiesIn}
 use Rattle.admittance_box.specs.Exact.{zero_ends, one_ends}
 use Rattle.admittance_box.specs.Orders.{order_ends, HoldsOrders}
 

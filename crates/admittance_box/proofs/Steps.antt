@@ -15,11 +15,11 @@ if_some (Some r) P h = h r refl
 if_some None P h = tt
 
 -- there is a value where what it is mapped to is known
-pub is_some-map : {A B : Type 0} (f : A → B) (o : Option A) (b : B) → option_map f o ≡ Some b → IsSome o
-is_some-map f (Some a) b e = search
-is_some-map f None b e = absurd cc
+pub is_some-map : {A B : Type 0} (f : A → B) (o : Option A) (p : Option B) (b : B) → option_map f o ≡ p → p ≡ Some b → IsSome o
+is_some-map f (Some a) p b e k = search
+is_some-map f None p b e k = absurd cc
 
 -- and that value is mapped to it
-pub map-some : {A B : Type 0} (f : A → B) (o : Option A) (a : A) (b : B) → o ≡ Some a → option_map f o ≡ Some b → f a ≡ b
-map-some f (Some c) a b p e = cc
-map-some f None a b p e = absurd cc
+pub map-some : {A B : Type 0} (f : A → B) (o : Option A) (a : A) (p : Option B) (b : B) → o ≡ Some a → option_map f o ≡ p → p ≡ Some b → f a ≡ b
+map-some f (Some c) a p b i e k = cc
+map-some f None a p b i e k = absurd cc

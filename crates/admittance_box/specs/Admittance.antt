@@ -1,5 +1,5 @@
 -- The admittance of a branch over a box of orders, on pairs of ends. It is absent where a step has no value.
-use Rattle.std.specs.Prelude.{ℕ, Bool, Option, Some, None, if◌then◌else◌}
+use Rattle.std.specs.Prelude.{ℕ, Bool, Option, Some, if◌then◌else◌}
 use Rattle.complex_interval.specs.Ends.{Ends, add_ends, sub_ends, mul_ends, div_ends, square_ends}
 use Rattle.complex_interval.specs.Boxes.{Box, div_boxes}
 use Rattle.admittance_box.specs.Exact.{zero_ends, one_ends, one_box}

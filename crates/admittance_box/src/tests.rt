@@ -7,6 +7,7 @@ use exact_fraction::Fraction;
 use std::test::Fail;
 
 const UNIT_40: i64 = 1_099_511_627_776;
+
 const UNIT_48: i64 = 281_474_976_710_656;
 
 // The number n/d of small n and d.

@@ -1,8 +1,5 @@
-use Rattle.std.proofs.Common.{◌≡◌, Option, rules}
-use Rattle.std.specs.Option.{option_map}
+use Rattle.std.proofs.Common.{rules}
 use Rattle.std.specs.Prelude.{Some}
-use Rattle.complex_interval.specs.Boxes.{Box}
-use Rattle.admittance_box.specs.Admittance.{shunt_admittance_box}
 use Rattle.admittance_box.proofs.Laws.{shunt_holds}
 use Rattle.admittance_box.proofs.shunt.shunt_admittance.Goals as goal
 
