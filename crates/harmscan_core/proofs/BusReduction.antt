@@ -1,5 +1,6 @@
 -- The sum over the branches of a network of one node holds its exact admittance.
-use Rattle.std.proofs.Common.{◌≡◌, ℕ, zero, suc, ◌+◌, refl, sym, subst, ap, ◌∙◌, Bool, true, false, Option, pos, List, [], ◌∷◌, map, arith}
+use Rattle.std.proofs.Common.{◌≡◌, ℕ, zero, suc, ◌+◌, refl, sym, subst, ap, ◌∙◌, Bool, true, false, Option, pos, List, [], ◌∷◌, map, drop, length, ◌≤◌, arith}
+use Rattle.std.proofs.lemmas.List.{drop_all}
 use Rattle.std.proofs.lemmas.Int.{ints}
 use Rattle.std.specs.Ordering.{int_eq}
 use Rattle.std.specs.Prelude.{Some, None, IsTrue, ◌&&◌}
@@ -139,3 +140,11 @@ one_node_reduces s network node = record {
         holds = along s held _ _ (ring R (sum_of sum.ys ∷ []) (search reads depth 40 fits 4000) none_left) sum.holds;
       };
 }
+
+-- nothing is left to add
+pub sum_done : {G : Type 0} (f : G → GroundEnds) (s : ℕ) (order : Ends) (sum : Option Box) (items : List G) (i : ℕ) → i ≡ length items
+    → summed s order sum (map f (drop i items)) ≡ summed s order (Some zero_box) (map f items) → sum ≡ summed s order (Some zero_box) (map f items)
+sum_done {G} f s order sum items i e h =
+    let past : length items ≤ i = omega (arith, e) in
+    let none : drop i items ≡ [] = drop_all i items past in
+    ap (λ (l : List G). summed s order sum (map f l)) (sym none) ∙ h

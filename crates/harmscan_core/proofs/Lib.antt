@@ -4,3 +4,7 @@ pub mod Causes
 pub mod Complete
 pub mod BusReduction
 pub mod InPerUnit
+pub mod BoxCount
+pub mod StudyFacts
+pub mod WholeReport
+pub mod Written

@@ -1,6 +1,6 @@
 -- The rows, the text and the status of a study's report.
 use Rattle.std.specs.Prelude.{ℕ, ◌+◌, nat_lt, slice_get, unsigned_abs, if◌then◌else◌, List, [], ◌∷◌, ◌++◌, Option, Some, None}
-use Rattle.scan_report.specs.Rows.{row_text, IsOhms}
+use Rattle.scan_report.specs.Rows.{row_text}
 use Rattle.scan_report.specs.declared.boxes.Kind.{Kind}
 use Rattle.scan_report.specs.declared.boxes.Kind.TheVariants.{Cleared, Peak, Undecided}
 use Rattle.scan_report.specs.declared.boxes.BoxRow.{BoxRow}
@@ -95,12 +95,3 @@ report_rows study = rows_of_scans study study.scans ++ row.End (report_status st
 -- the bytes of a report
 unfoldable pub report_text : Study → List ℕ
 report_text study = text_of (report_rows study)
-
-abbrev KindHasText : Kind → Type 0
-KindHasText Cleared = Unit {0}
-KindHasText (Peak at ohms) = IsOhms (Some ohms)
-KindHasText Undecided = Unit {0}
-
--- a box whose ohms, if it has any, can be written
-abbrev pub HasText : BoxRow → Type 0
-HasText b = KindHasText b.kind

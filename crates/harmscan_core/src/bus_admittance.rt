@@ -48,6 +48,7 @@ pub struct BusAdmittance<E> {
     pub branches: Vec<GroundBranch<E>>,
 }
 
+#[tactic(auto, unfolding(crate::specs::BusAdmittance::admittance_sum), using(crate::proofs::BusReduction::sum_done))]
 impl<E: Enclosure> Reduction for BusAdmittance<E> {
     type Interval = E;
 

@@ -11,7 +11,7 @@ ghost use Rattle.harmscan_core.specs.Outcome.{ReadsStudy, Reports, Happens, Happ
 use crate::lines::say;
 use crate::outcome::{Outcome, status};
 use crate::report::put_report;
-use crate::scan::walk_of;
+use crate::scan::{only_scan, walk_of};
 use crate::words::reading;
 use harm_io::{FetchFault, PutFault, Shelf, Sink};
 use std::alloc::Global;
@@ -44,9 +44,7 @@ fn report<O: Sink>(alloc: Global, study: &Study, out: &mut O) -> Outcome
     requires { IsBuilt study.now }
     ensures { Reports study.now (O.state out.old) (O.state out.new) result }
 {
-    let [scan] = study.scans.as_slice() else {
-        unreachable!()
-    };
+    let scan = only_scan(study);
     match walk_of(alloc, study, scan) {
         Err(_) => Outcome::NoMemory,
         Ok(mut walk) => match put_report(study, scan, &mut walk, out) {

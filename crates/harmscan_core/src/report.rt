@@ -1,12 +1,13 @@
 // The writing of a report, a line a put.
 ghost use Rattle.std.specs.Prelude.{◌≡◌, ◌<◌, length, IfOk};
 ghost use Rattle.std.specs.List.{AllByRecursion};
+ghost use Rattle.band_subdivision.specs.BoxText.{HasText};
 ghost use Rattle.harm_io.specs.Sinks.{Writes};
 ghost use Rattle.scan_report.specs.Rows.{row_text};
 ghost use Rattle.study_reader.specs.Built.{IsBuiltScan};
 ghost use Rattle.harmscan_core.specs.Scan.{boxes_in};
 ghost use Rattle.harmscan_core.specs.Texts.{head_text, boxes_text, summary_text, end_text, body_text, scan_text, whole_text};
-ghost use Rattle.harmscan_core.specs.Report.{row_of, counted, no_counts, net_of, status_of, HasText};
+ghost use Rattle.harmscan_core.specs.Report.{row_of, counted, no_counts, net_of, status_of};
 
 use crate::counts::{Counts, count, status};
 use crate::scan::ScanWalk;

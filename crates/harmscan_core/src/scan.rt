@@ -1,5 +1,5 @@
 // The walk of a scan.
-ghost use Rattle.std.specs.Prelude.{◌≡◌, ◌++◌, map, IfOk, OnOk, List, All, length, unsigned_abs};
+ghost use Rattle.std.specs.Prelude.{◌≡◌, [], ◌∷◌, ◌++◌, map, IfOk, OnOk, List, All, length, unsigned_abs};
 ghost use Rattle.std.specs.Vec.{vec_len};
 ghost use Rattle.study_reader.specs.Built.{IsBuilt, IsBuiltScan};
 ghost use Rattle.harmscan_core.specs.BusAdmittance.{ground_ends, grounds_of};
@@ -48,6 +48,15 @@ fn bus_admittance<E: Enclosure>(alloc: Global, study: &Study) -> Result<BusAdmit
     push_sources(study, &mut branches)?;
     push_banks(study, &mut branches)?;
     Ok(BusAdmittance { branches })
+}
+
+/// The one scan of a study.
+pub fn only_scan(study: &Study) -> &ScanItem
+    requires { IsBuilt study.now }
+    ensures only { study.now.scans ≡ result.now ∷ [] }
+    ensures built { IsBuiltScan 1 result.now }
+{
+    &study.scans.as_slice()[0]
 }
 
 /// The walk of a scan: all memory that it takes is taken here.

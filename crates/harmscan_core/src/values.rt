@@ -30,12 +30,23 @@ fn product(a: Decimal, b: Decimal) -> i128
     i128::from(a.millionths) * i128::from(b.millionths)
 }
 
+/// The square of a decimal above 0, in units of 10^-12.
+#[tactic(auto, using(crate::proofs::InPerUnit::square_above))]
+fn square(d: Decimal) -> i128
+    requires { pos 1 ≤ℤ d }
+    ensures value { result ≡ d *ℤ d }
+    ensures bound { unsigned_abs result < 2 ^ 120 }
+    ensures positive { pos 1 ≤ℤ result }
+{
+    product(d, d)
+}
+
 /// An impedance of z ohms in per unit: z·s/v².
 fn impedance(z: Decimal, mva: Decimal, kv: Decimal) -> Fraction
     requires { pos 1 ≤ℤ kv }
     ensures { ratio_of result ≡ impedance_per_unit z mva kv }
 {
-    Fraction::new(product(z, mva), product(kv, kv)).unwrap()
+    Fraction::new(product(z, mva), square(kv)).unwrap()
 }
 
 /// A decimal as a fraction.
@@ -60,20 +71,33 @@ fn zero() -> Fraction
     Fraction { num: 0, den: 1 }
 }
 
+/// The values of a source in per unit.
+fn source_values(study: &Study, source: &Source) -> SeriesValues
+    requires bus { source.now.bus < length study.now.buses }
+    requires voltage { pos 1 ≤ℤ kv_of study.now.buses source.now.bus }
+    ensures r { ratio_of result.r ≡ impedance_per_unit source.now.r study.now.mva (kv_of study.now.buses source.now.bus) }
+    ensures k { ratio_of result.k ≡ millionths source.now.skin_k }
+    ensures m { ratio_of result.m ≡ millionths source.now.skin_m }
+    ensures x { ratio_of result.x ≡ impedance_per_unit source.now.x study.now.mva (kv_of study.now.buses source.now.bus) }
+    ensures xc { ratio_of result.xc ≡ whole (pos 0) }
+{
+    let kv = kv(study, source.bus);
+    SeriesValues {
+        r: impedance(source.r, study.mva, kv),
+        k: fraction(source.skin_k),
+        m: fraction(source.skin_m),
+        x: impedance(source.x, study.mva, kv),
+        xc: zero(),
+    }
+}
+
 /// The branch of a source.
 pub fn source_branch<E: Enclosure>(study: &Study, source: &Source) -> GroundBranch<E>
     requires bus { source.now.bus < length study.now.buses }
     requires voltage { pos 1 ≤ℤ kv_of study.now.buses source.now.bus }
     ensures { ground_of E.ends result ≡ ground_ends E.SCALE (source_law study.now source.now) }
 {
-    let kv = kv(study, source.bus);
-    let values = SeriesValues {
-        r: impedance(source.r, study.mva, kv),
-        k: fraction(source.skin_k),
-        m: fraction(source.skin_m),
-        x: impedance(source.x, study.mva, kv),
-        xc: zero(),
-    };
+    let values = source_values(study, source);
     match SeriesParameters::from_fractions(values, values) {
         Some(parameters) => GroundBranch::Series(parameters),
         None => GroundBranch::OutOfRange,

@@ -1,7 +1,8 @@
 use Rattle.std.proofs.Common.{◌≡◌, suc, ◌+◌, ◌∷◌, List, length, subst, sym, ap, ◌∙◌, arith}
 use Rattle.scan_report.specs.declared.boxes.BoxRow.{BoxRow}
 use Rattle.harmscan_core.specs.declared.counts.Counts.{Counts}
-use Rattle.harmscan_core.specs.Report.{HasText, counted}
+use Rattle.harmscan_core.specs.Report.{counted}
+use Rattle.band_subdivision.specs.BoxText.{HasText}
 use Rattle.harmscan_core.specs.Texts.{boxes_text}
 use Rattle.std.specs.List.{AllByRecursion}
 use Rattle.harmscan_core.proofs.Rows.{Counts≤, boxes_next, boxes_stop, boxes_end, count_grows}

@@ -1,6 +1,7 @@
 use Rattle.std.proofs.Common.{◌≡◌, ◌+◌, ◌<◌, ◌≤◌, length}
 use Rattle.harm_io.proofs.Writing.{WroteFront}
-use Rattle.harmscan_core.specs.Report.{counted, no_counts, HasText}
+use Rattle.harmscan_core.specs.Report.{counted, no_counts}
+use Rattle.band_subdivision.specs.BoxText.{HasText}
 use Rattle.harmscan_core.specs.Texts.{boxes_text}
 use Rattle.std.specs.List.{AllByRecursion}
 use Rattle.harmscan_core.proofs.report.put_boxes.Given as goal
