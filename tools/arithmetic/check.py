@@ -3,15 +3,16 @@
 
   tools/arithmetic/check.py PROGRAM [--count N] [--seed N]
 
-N operations of each kind (10,000), at both scales. The expected values come from docs/arithmetic.md alone, by Python's
-fractions. Prints, of each kind, how many operations had a value; the status is 1 where one differs.
+N operations of each kind (10,000), at both scales. The expected values are those of docs/arithmetic.md, by Python's fractions;
+beside them, each interval is asked whether it holds the exact result of numbers that its operands held. Prints, of each kind,
+how many operations had a value, and at the end the time of a million complex quotients; the status is 1 where one differs.
 """
 import argparse
 import math
 import random
+import resource
 import subprocess
 import sys
-import time
 from fractions import Fraction
 
 END = 2**62
@@ -192,6 +193,43 @@ def root_ceil(_, n):
     return math.isqrt(n - 1) + 1 if n else 0
 
 
+# ---- the exact results, of complex numbers as pairs; a real number has the imaginary part 0
+
+def plus(z, w):
+    return (z[0] + w[0], z[1] + w[1])
+
+
+def minus(z, w):
+    return (z[0] - w[0], z[1] - w[1])
+
+
+def times(z, w):
+    return (z[0] * w[0] - z[1] * w[1], z[0] * w[1] + z[1] * w[0])
+
+
+def over(z, w):
+    size = w[0] ** 2 + w[1] ** 2
+    return times(z, (w[0] / size, -w[1] / size))
+
+
+EXACT = {
+    'add': plus, 'sub': minus, 'mul': times, 'div': over, 'square': lambda z: times(z, z),
+    'complex_add': plus, 'complex_sub': minus, 'complex_mul': times, 'complex_div': over, 'complex_scale': times,
+}
+
+
+def held(s, random, operand):
+    """a number that an interval or a rectangle holds: an end, or one between"""
+    if not isinstance(operand[0], tuple):
+        operand = (operand, (0, 0))
+    shares = [random.choice((Fraction(0), Fraction(1), Fraction(random.randint(0, 1000), 1000))) for _ in operand]
+    return tuple((low + share * (high - low)) / 2**s for share, (low, high) in zip(shares, operand))
+
+
+def holds(s, result, z):
+    return all(low <= part * 2**s <= high for low, high, part in zip(result[::2], result[1::2], z))
+
+
 # ---- random operands
 
 class Operands:
@@ -328,31 +366,37 @@ def run(program, lines):
     return subprocess.run([program], input=given, capture_output=True, text=True, check=True).stdout.splitlines()
 
 
-def compare(program, name, scale, operation, operands):
+def compare(program, random, name, scale, operation, operands):
     lines = [f'{name} {scale} {words(each)}' for each in operands]
-    wanted = [text(operation(scale, *each)) for each in operands]
+    results = [operation(scale, *each) for each in operands]
+    wanted = list(map(text, results))
     given = run(program, lines)
     different = [t for t in zip(lines, wanted, given) if t[1] != t[2]]
-    missing = abs(len(given) - len(wanted))
-    values = sum(each != 'none' for each in wanted)
-    print(f'{name} {scale}: {len(wanted)} operations, {values} with a value, {len(different) + missing} different')
     for line, want, got in different[:3]:
         print(f'    {line}\n    wanted {want}\n    got    {got}')
-    return len(different) + missing
+    wrong = len(different) + abs(len(given) - len(wanted))
+    values = sum(each != 'none' for each in wanted)
+    if name in EXACT:
+        for line, each, result in zip(lines, operands, results):
+            if result is not None and not holds(scale, result, EXACT[name](*(held(scale, random, x) for x in each))):
+                print(f'    {line}\n    does not hold an exact result')
+                wrong += 1
+    print(f'{name} {scale}: {len(wanted)} operations, {values} with a value, {wrong} different')
+    return wrong
 
 
 def measure(program, count):
-    """the time of `count` complex quotients by each branch, beside that of none"""
+    """the processor time of `count` complex quotients by each branch, less that of none"""
     first = '1099511627776 1099511628776 -549755813888 -549755812888'
     for branch, second in (('real', '2199023255552 2199023256552 1099511627776 1099511628776'), ('imaginary', '1099511627776 1099511628776 2199023255552 2199023256552')):
-        times = []
+        spent = []
         for number in (0, count):
-            began = time.perf_counter()
+            began = resource.getrusage(resource.RUSAGE_CHILDREN).ru_utime
             found = run(program, [f'repeat_div 40 {first} {second} {number}'])
-            times.append(time.perf_counter() - began)
+            spent.append(resource.getrusage(resource.RUSAGE_CHILDREN).ru_utime - began)
             if found != [str(number)]:
                 sys.exit(f'of {number} quotients {found} had a value')
-        print(f'{count} complex quotients by the {branch} part: {times[1] - times[0]:.3f} s')
+        print(f'{count} complex quotients by the {branch} part: {spent[1] - spent[0]:.3f} s of processor time')
 
 
 def main():
@@ -366,9 +410,9 @@ def main():
     different = 0
     for name, (operation, choose) in SCALED.items():
         for scale in (40, 48):
-            different += compare(given.program, name, scale, operation, [choose(r) for _ in range(given.count)])
+            different += compare(given.program, r.random, name, scale, operation, [choose(r) for _ in range(given.count)])
     for name, (operation, choose) in PLAIN.items():
-        different += compare(given.program, name, 0, operation, [choose(r) for _ in range(given.count)])
+        different += compare(given.program, r.random, name, 0, operation, [choose(r) for _ in range(given.count)])
     measure(given.program, given.quotients)
     print(f'{different} different')
     sys.exit(1 if different else 0)

@@ -1,21 +1,15 @@
 // Operations on fractions: the scale that leads the line is 0.
-use exact_fraction::{Fraction, root_ceil, root_floor};
-
 use crate::numbers::Numbers;
 use crate::value::Value;
+use exact_fraction::{Fraction, root_ceil, root_floor};
 
 pub fn value(name: &str, numbers: &Numbers) -> Option<Value> {
     match name {
-        "new" => Some(Value::of_fraction(Fraction::new(
-            numbers.at(1),
-            numbers.at(2),
-        ))),
+        "new" => Some(Value::of_fraction(Fraction::new(numbers.at(1), numbers.at(2)))),
         "product" => product(numbers),
         "root_floor" => root(numbers, false),
         "root_ceil" => root(numbers, true),
-        "at_most" => Some(Value::Flag(
-            numbers.fraction(1)?.at_most(numbers.fraction(3)?),
-        )),
+        "at_most" => Some(Value::Flag(numbers.fraction(1)?.at_most(numbers.fraction(3)?))),
         "floor_scaled" => scaled(numbers, false),
         "ceil_scaled" => scaled(numbers, true),
         "floor_times" => multiple(numbers, false),

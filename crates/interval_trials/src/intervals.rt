@@ -1,9 +1,8 @@
 // Operations on intervals, at the scale that leads the line.
-use complex_interval::Enclosure;
-
 use crate::numbers::Numbers;
 use crate::rectangles;
 use crate::value::Value;
+use complex_interval::Enclosure;
 
 pub fn value<E: Enclosure>(name: &str, numbers: &Numbers) -> Option<Value> {
     match name {

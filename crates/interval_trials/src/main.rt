@@ -8,13 +8,11 @@ mod numbers;
 mod rectangles;
 mod value;
 
-use std::io;
-use std::io::{BufRead, BufReader, BufWriter, Write};
-
-use complex_interval::Span;
-
 use crate::numbers::Numbers;
 use crate::value::Value;
+use complex_interval::Span;
+use std::io;
+use std::io::{BufRead, BufReader, BufWriter, Write};
 
 fn main(rt: HostRuntime) -> io::Result<()> {
     let mut out = BufWriter::new(rt.alloc(), io::writer(&rt))?;

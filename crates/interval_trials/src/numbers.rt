@@ -1,4 +1,6 @@
 // The numbers of a line, at most ten.
+ghost use Rattle.std.specs.Prelude.{◌<◌};
+
 use complex_interval::{Enclosure, Rect};
 use exact_fraction::Fraction;
 
@@ -41,7 +43,7 @@ impl Numbers {
     }
 
     pub fn rectangle<E: Enclosure>(&self, place: usize) -> Option<Rect<E>>
-        requires { place < 10 }
+        requires { place < 8 }
     {
         Some(Rect {
             re: self.interval(place)?,

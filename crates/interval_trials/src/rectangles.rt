@@ -1,8 +1,7 @@
 // Operations on rectangles of the complex plane.
-use complex_interval::{Enclosure, Rect};
-
 use crate::numbers::Numbers;
 use crate::value::Value;
+use complex_interval::{Enclosure, Rect};
 
 pub fn value<E: Enclosure>(name: &str, numbers: &Numbers) -> Option<Value> {
     let first: Rect<E> = numbers.rectangle(1)?;
@@ -20,14 +19,17 @@ pub fn value<E: Enclosure>(name: &str, numbers: &Numbers) -> Option<Value> {
     }
 }
 
-// The quotient, taken count times, each time by a divisor whose real part begins one raw unit higher; how often there was one.
+// The quotient, taken count times, each time by a divisor whose real part begins one raw unit higher; and how often there was one.
 fn repeated_quotient<E: Enclosure>(first: Rect<E>, second: Rect<E>, count: i64) -> Option<Value> {
     let mut found = 0_u64;
     for step in 0..count {
-        let re = E::from_ends(second.re.low().checked_add(step)?, second.re.high().checked_add(step)?)?;
+        let re = E::from_ends(
+            second.re.low().checked_add(step)?,
+            second.re.high().checked_add(step)?,
+        )?;
         let divisor = Rect { re, im: second.im };
         if first.div(divisor).is_some() {
-            found += 1;
+            found = found.saturating_add(1);
         }
     }
     Some(Value::Natural(u128::from(found)))

@@ -1,8 +1,7 @@
 // What is printed of a result.
-use std::fmt;
-
 use complex_interval::{Enclosure, Rect};
 use exact_fraction::Fraction;
+use std::fmt;
 
 #[derive(Clone, Copy, Drop)]
 pub enum Value {
