@@ -6,8 +6,8 @@ use Rattle.fixed_decimal.proofs.decimal.Decimal.parse.Goals as goal
 
 pub returns-then-is_empty-clause-grammar : goal.returns-then-is_empty-clause-grammar
 unfolding decimal_of
-returns-then-is_empty-clause-grammar c = answer_is c.args.text.now (Err Empty) (search rules)
+returns-then-is_empty-clause-grammar c = answer_is _ _ (search rules)
 
 pub returns-clause-grammar : goal.returns-clause-grammar
 unfolding decimal_of
-returns-clause-grammar c = answer_is c.args.text.now c.decimal.result (search rules)
+returns-clause-grammar c = answer_is _ _ (search rules)
