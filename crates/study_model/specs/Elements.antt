@@ -1,5 +1,5 @@
 -- The elements of a study by their numbers, and all names.
-use Rattle.std.specs.Prelude.{◌≡◌, ◌≢◌, ℕ, ◌-◌, ◌≤◌, List, [], ◌∷◌, ◌++◌, map, slice_get, Contains, IsSomeAnd}
+use Rattle.std.specs.Prelude.{ℕ, ◌-◌, ◌≤◌, List, [], ◌∷◌, ◌++◌, map, slice_get, Contains, IsSomeAnd}
 use Rattle.study_model.specs.declared.records.Study.{Study}
 
 -- The buses that each element touches. Elements are numbered from 1 over sources, lines, transformers, loads, banks and filters.

@@ -1,5 +1,5 @@
 -- What a lawful study is, key by key.
-use Rattle.std.specs.Prelude.{◌≡◌, ◌≢◌, ◌⊎◌, ℕ, ℤ, pos, ◌<◌, ◌≤◌, ◌≤ℤ◌, ◌<ℤ◌, ◌-ℤ◌, ◌*ℤ◌, IsTrue, List, length, codes, slice_get, option_map, All, AllPairs}
+use Rattle.std.specs.Prelude.{◌≡◌, ◌≢◌, ◌⊎◌, ℕ, pos, ◌<◌, ◌≤◌, ◌≤ℤ◌, ◌<ℤ◌, ◌-ℤ◌, ◌*ℤ◌, IsTrue, List, length, codes, slice_get, option_map, All, AllPairs}
 use Rattle.study_model.specs.NameText.{is_name}
 use Rattle.study_model.specs.Range.{IsIn}
 use Rattle.study_model.specs.Rules.{AreNotBothZero, IsZeroSequence, HasZeroSequence, AreMutual, IsNeutral, IsPower, IsImpedance, IsElementPhase, IsScanned}

@@ -1,5 +1,5 @@
 -- Rules on the keys of an entry.
-use Rattle.std.specs.Prelude.{◌≡◌, ℤ, pos, ◌≤ℤ◌, List, Option, Some, None}
+use Rattle.std.specs.Prelude.{◌≡◌, ℤ, pos, Option, Some, None}
 use Rattle.study_model.specs.Range.{IsIn}
 use Rattle.study_model.specs.declared.range.TheConstants.Range.{ORDINARY, ABOVE_ZERO}
 use Rattle.study_model.specs.declared.words.StudyModel.{StudyModel}

@@ -319,8 +319,8 @@ mod tests {
             (StudyFault::NoMemory, None, "NoMemory"),
         ];
         for (fault, number, name) in table {
-            assert_eq!(rt; fault.number(), number, "{name}");
-            assert_eq!(rt; fault.name(), name);
+            assert_eq!(rt; fault.number(), number);
+            assert!(rt; fault.name() == name);
         }
         assert_eq!(rt; StudyFault::VersionUnknown.place(), None);
         assert_eq!(rt; StudyFault::TooFine(place).place(), Some(place));
