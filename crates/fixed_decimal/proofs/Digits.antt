@@ -1,18 +1,18 @@
 -- Digits, the number that they write, and the run of them at the front of a text.
-use Rattle.std.proofs.Common.{◌≡◌, ◌∙◌, ap, sym, ℕ, zero, suc, ◌+◌, ◌-◌, ◌*◌, ◌^◌, ◌≤◌, ◌<◌, Bool, true, false, cond, List, [], ◌∷◌, ◌++◌, length, take, drop, get_or, min, refl, arith, add-one, length-append, lit<}
-use Rattle.std.proofs.Math.Nat.{pow-suc, mul-le-mul_left, mul-le-mul_right, mul-le-mul}
+use Rattle.std.proofs.Common.{◌≡◌, ◌∙◌, ap, sym, ℕ, zero, suc, ◌+◌, ◌-◌, ◌*◌, ◌^◌, ◌≤◌, ◌<◌, Bool, true, false, cond, List, [], ◌∷◌, ◌++◌, length, take, get_or, min, refl, arith, length-append, lit<}
+use Rattle.std.proofs.Math.Nat.{pow-suc, mul-le-mul_left, mul-le-mul_right}
 use Rattle.std.proofs.lemmas.Nat.{pow-add}
 use Rattle.std.proofs.lemmas.List.{take_more}
 use Rattle.std.proofs.lemmas.Bool.Decides.{nat_tests}
 use Rattle.std.specs.List.{prefix_len}
-use Rattle.std.specs.Int.{IsInRange, is_in_range}
+use Rattle.std.specs.Int.{IsInRange}
 use Rattle.std.specs.Char.{is_ascii_digit}
 use Rattle.fixed_decimal.specs.Parsed.{number, AreDigits}
 
 in_range : (byte : ℕ) → is_ascii_digit byte ≡ true → IsInRange 48 57 byte
 in_range byte h = grind (arith, nat_tests)
 
-one_more : {n : ℕ} → 1 + n ≡ suc n
+pub one_more : {n : ℕ} → 1 + n ≡ suc n
 one_more {n} = omega arith
 
 digits_step : (found : Bool) (byte : ℕ) (text : List ℕ) → is_ascii_digit byte ≡ found → AreDigits (take (prefix_len is_ascii_digit text) text) → AreDigits (take (cond found (1 + prefix_len is_ascii_digit text) 0) (byte ∷ text))
@@ -51,7 +51,7 @@ number_lt (x ∷ xs) h = rw (pow-suc 10 (length xs)) (below_step (x - 48) (numbe
 below_product : (n p q r : ℕ) → n < p → 0 < q → p * q ≡ r → n * q < r
 below_product n p q r h some e = omega (arith, mul-le-mul_right q h)
 
-six_and : (n : ℕ) → n ≤ 6 → 10 ^ n * 10 ^ (6 - n) ≡ 1000000
+pub six_and : (n : ℕ) → n ≤ 6 → 10 ^ n * 10 ^ (6 - n) ≡ 1000000
 six_and n few =
     let six : n + (6 - n) ≡ 6 = omega arith in
     sym (pow-add 10 n (6 - n)) ∙ ap (λ k. 10 ^ k) six

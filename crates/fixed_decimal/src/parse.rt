@@ -2,7 +2,8 @@
 ghost use Rattle.std.specs.Prelude.{pos, ◌≡◌, ◌≤◌, ◌<◌, ◌^◌, ◌*◌, ◌-◌, ◌+◌, List, ℕ, length, min};
 ghost use Rattle.std.specs.List.{prefix_len};
 ghost use Rattle.std.specs.Char.{is_ascii_digit};
-ghost use Rattle.fixed_decimal.specs.Parsed.{number, AreDigits, parts_of, with_digits, is_decimal, decimal_of, whole_decimal_of};
+ghost use Rattle.fixed_decimal.specs.Parsed.{number, AreDigits, parts_of, with_digits, is_decimal, decimal_in, decimal_of, whole_decimal_of};
+ghost use Rattle.fixed_decimal.specs.Grammar.{IsAnswer};
 ghost use Rattle.fixed_decimal.specs.Seen.{parts_seen};
 
 use crate::decimal::Decimal;
@@ -104,6 +105,30 @@ impl Parts<'_> {
     {
         !self.whole.is_empty() && (!self.pointed || !self.places.is_empty()) && self.rest.is_empty()
     }
+
+    /// The decimal of the parts of a text of this length.
+    fn decimal(&self, len: usize) -> Result<Decimal, DecimalFault>
+        requires whole { AreDigits self.now.whole.now }
+        requires places { AreDigits self.now.places.now }
+        requires rest { length self.now.rest.now ≤ len }
+        requires len { len < 2 ^ 32 }
+        ensures { result ≡ decimal_in len (parts_seen self.now) }
+    {
+        if !self.is_decimal() {
+            return Err(DecimalFault::BadByte((len - self.rest.len()) as u32));
+        }
+        if self.places.len() > 6 {
+            return Err(DecimalFault::TooManyPlaces);
+        }
+        let whole = capped_number(self.whole);
+        if whole >= LIMIT {
+            return Err(DecimalFault::TooLarge);
+        }
+        let size = millionths(whole, self.places);
+        Ok(Decimal {
+            millionths: if self.negative { -size } else { size },
+        })
+    }
 }
 
 impl Decimal {
@@ -112,25 +137,12 @@ impl Decimal {
     pub fn parse(text: &str) -> Result<Decimal, DecimalFault>
         requires { length text.now < 2 ^ 32 }
         ensures value { result ≡ decimal_of text.now }
+        ensures grammar { IsAnswer text.now result }
     {
         if text.is_empty() {
             return Err(DecimalFault::Empty);
         }
-        let parts = parts_of(text.as_bytes());
-        if !parts.is_decimal() {
-            return Err(DecimalFault::BadByte((text.len() - parts.rest.len()) as u32));
-        }
-        if parts.places.len() > 6 {
-            return Err(DecimalFault::TooManyPlaces);
-        }
-        let whole = capped_number(parts.whole);
-        if whole >= LIMIT {
-            return Err(DecimalFault::TooLarge);
-        }
-        let size = millionths(whole, parts.places);
-        Ok(Decimal {
-            millionths: if parts.negative { -size } else { size },
-        })
+        parts_of(text.as_bytes()).decimal(text.len())
     }
 
     /// The decimal of a whole number.

@@ -4,7 +4,7 @@ use Rattle.std.specs.Fmt.{decimal}
 use Rattle.study_model.specs.Words.{section_text, key_text}
 use Rattle.study_model.specs.declared.fault.Place.{Place}
 use Rattle.study_model.specs.declared.fault.StudyFault.{StudyFault}
-use Rattle.study_model.specs.Faults.{number_of, name_of, place_of}
+use Rattle.study_model.specs.Faults.{fault_number, fault_name, fault_place}
 use Rattle.harmscan_core.specs.declared.outcome.Outcome.{Outcome}
 use Rattle.harmscan_core.specs.declared.outcome.Outcome.TheVariants as outcome
 
@@ -20,7 +20,7 @@ number_text (Some number) = decimal number
 
 -- a refusal: its number, its name and its place
 unfoldable pub refusal_text : StudyFault → List ℕ
-refusal_text fault = number_text (number_of fault) ++ codes " " ++ name_of fault ++ place_text (place_of fault)
+refusal_text fault = number_text (fault_number fault) ++ codes " " ++ fault_name fault ++ place_text (fault_place fault)
 
 -- the line for an outcome, or none
 abbrev pub line_at : Outcome → Option (List ℕ)

@@ -1,71 +1,44 @@
--- The numbers and names of refusals.
+-- What is printed of a fault.
 use Rattle.std.specs.Prelude.{ℕ, List, codes, Option, Some, None}
 use Rattle.study_model.specs.declared.fault.Place.{Place}
 use Rattle.study_model.specs.declared.fault.StudyFault.{StudyFault}
-use Rattle.study_model.specs.declared.fault.StudyFault.TheVariants as fault
+use Rattle.study_model.specs.declared.fault.StudyFault.TheVariants.{NotToml, VersionUnknown, MissingKey, UnknownKey, WrongKind, BareDecimal, BadDecimal, OutOfRange, BadName, DuplicateName, UnknownBus, TooMany, BadBand, TooFine, Floating, PhaseFloating, NotBuilt, UnknownElement, NoMemory}
 
--- the number of a refusal
-abbrev pub number_of : StudyFault → Option ℕ
-number_of fault.NotToml = Some 1
-number_of fault.VersionUnknown = Some 2
-number_of (fault.MissingKey place) = Some 3
-number_of (fault.UnknownKey place) = Some 4
-number_of (fault.WrongKind place) = Some 5
-number_of (fault.BareDecimal place) = Some 6
-number_of (fault.BadDecimal place) = Some 7
-number_of (fault.OutOfRange place) = Some 8
-number_of (fault.BadName place) = Some 9
-number_of (fault.DuplicateName place) = Some 10
-number_of (fault.UnknownBus place) = Some 11
-number_of (fault.TooMany place) = Some 12
-number_of (fault.BadBand place) = Some 13
-number_of (fault.TooFine place) = Some 14
-number_of (fault.Floating place) = Some 15
-number_of (fault.PhaseFloating place) = Some 16
-number_of (fault.NotBuilt place) = Some 17
-number_of (fault.UnknownElement place) = Some 18
-number_of fault.NoMemory = None
+-- A fault's number, which the want of memory lacks, its name and its place.
+pub record Printed : Type 0 where
+  pub number : Option ℕ
+  pub name : List ℕ
+  pub place : Option Place
 
--- its name
-abbrev pub name_of : StudyFault → List ℕ
-name_of fault.NotToml = codes "NotToml"
-name_of fault.VersionUnknown = codes "VersionUnknown"
-name_of (fault.MissingKey place) = codes "MissingKey"
-name_of (fault.UnknownKey place) = codes "UnknownKey"
-name_of (fault.WrongKind place) = codes "WrongKind"
-name_of (fault.BareDecimal place) = codes "BareDecimal"
-name_of (fault.BadDecimal place) = codes "BadDecimal"
-name_of (fault.OutOfRange place) = codes "OutOfRange"
-name_of (fault.BadName place) = codes "BadName"
-name_of (fault.DuplicateName place) = codes "DuplicateName"
-name_of (fault.UnknownBus place) = codes "UnknownBus"
-name_of (fault.TooMany place) = codes "TooMany"
-name_of (fault.BadBand place) = codes "BadBand"
-name_of (fault.TooFine place) = codes "TooFine"
-name_of (fault.Floating place) = codes "Floating"
-name_of (fault.PhaseFloating place) = codes "PhaseFloating"
-name_of (fault.NotBuilt place) = codes "NotBuilt"
-name_of (fault.UnknownElement place) = codes "UnknownElement"
-name_of fault.NoMemory = codes "NoMemory"
+abbrev pub row : ℕ → List ℕ → Option Place → Printed
+row number name place = record { number = Some number; name = name; place = place }
 
--- its place, where it has one
-abbrev pub place_of : StudyFault → Option Place
-place_of fault.NotToml = None
-place_of fault.VersionUnknown = None
-place_of (fault.MissingKey place) = Some place
-place_of (fault.UnknownKey place) = Some place
-place_of (fault.WrongKind place) = Some place
-place_of (fault.BareDecimal place) = Some place
-place_of (fault.BadDecimal place) = Some place
-place_of (fault.OutOfRange place) = Some place
-place_of (fault.BadName place) = Some place
-place_of (fault.DuplicateName place) = Some place
-place_of (fault.UnknownBus place) = Some place
-place_of (fault.TooMany place) = Some place
-place_of (fault.BadBand place) = Some place
-place_of (fault.TooFine place) = Some place
-place_of (fault.Floating place) = Some place
-place_of (fault.PhaseFloating place) = Some place
-place_of (fault.NotBuilt place) = Some place
-place_of (fault.UnknownElement place) = Some place
-place_of fault.NoMemory = None
+abbrev pub printed_of : StudyFault → Printed
+printed_of NotToml = row 1 (codes "NotToml") None
+printed_of VersionUnknown = row 2 (codes "VersionUnknown") None
+printed_of (MissingKey place) = row 3 (codes "MissingKey") (Some place)
+printed_of (UnknownKey place) = row 4 (codes "UnknownKey") (Some place)
+printed_of (WrongKind place) = row 5 (codes "WrongKind") (Some place)
+printed_of (BareDecimal place) = row 6 (codes "BareDecimal") (Some place)
+printed_of (BadDecimal place) = row 7 (codes "BadDecimal") (Some place)
+printed_of (OutOfRange place) = row 8 (codes "OutOfRange") (Some place)
+printed_of (BadName place) = row 9 (codes "BadName") (Some place)
+printed_of (DuplicateName place) = row 10 (codes "DuplicateName") (Some place)
+printed_of (UnknownBus place) = row 11 (codes "UnknownBus") (Some place)
+printed_of (TooMany place) = row 12 (codes "TooMany") (Some place)
+printed_of (BadBand place) = row 13 (codes "BadBand") (Some place)
+printed_of (TooFine place) = row 14 (codes "TooFine") (Some place)
+printed_of (Floating place) = row 15 (codes "Floating") (Some place)
+printed_of (PhaseFloating place) = row 16 (codes "PhaseFloating") (Some place)
+printed_of (NotBuilt place) = row 17 (codes "NotBuilt") (Some place)
+printed_of (UnknownElement place) = row 18 (codes "UnknownElement") (Some place)
+printed_of NoMemory = record { number = None; name = codes "NoMemory"; place = None }
+
+abbrev pub fault_number : StudyFault → Option ℕ
+fault_number fault = (printed_of fault).number
+
+abbrev pub fault_name : StudyFault → List ℕ
+fault_name fault = (printed_of fault).name
+
+abbrev pub fault_place : StudyFault → Option Place
+fault_place fault = (printed_of fault).place

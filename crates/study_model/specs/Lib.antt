@@ -1,4 +1,10 @@
 pub mod NameText
 pub mod Name
 pub mod Words
+pub mod ValueWords
 pub mod Faults
+pub mod Range
+pub mod Rules
+pub mod Elements
+pub mod Lawful
+pub mod Worked

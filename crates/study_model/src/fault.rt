@@ -1,4 +1,5 @@
 // Why a study is refused, and where.
+ghost use Rattle.std.specs.Prelude.{◌≡◌};
 
 /// A section of a study, with the whole file and the networks beside them.
 #[derive(Clone, Copy, Debug, PartialEq, Eq)]
@@ -162,113 +163,180 @@ pub struct Place {
     pub key: Key,
 }
 
-/// Why a study is refused.
+/// Why a study is refused, in the order of the numbers, and the want of memory, which has none.
 #[derive(Clone, Copy, Debug, PartialEq, Eq)]
 pub enum StudyFault {
+    /// The bytes are no TOML document.
     NotToml,
+    /// `version` is a whole number other than 1.
     VersionUnknown,
+    /// A required key, section or entry is absent.
     MissingKey(Place),
+    /// The entry has a key that doesn't belong there.
     UnknownKey(Place),
+    /// The value is of another kind, or a word isn't in its list.
     WrongKind(Place),
+    /// A decimal is written as a bare float.
     BareDecimal(Place),
+    /// A decimal isn't in the grammar, or is too long or too large.
     BadDecimal(Place),
+    /// The value is outside its range, or breaks a rule on two keys.
     OutOfRange(Place),
+    /// A name isn't 1 to 32 bytes of letters, digits and `_ . -`.
     BadName(Place),
+    /// An earlier entry of any section has the name.
     DuplicateName(Place),
+    /// No bus has the name.
     UnknownBus(Place),
+    /// A section, or a network, passes its limit.
     TooMany(Place),
+    /// `to` isn't above `from`, or `locate` is below `finest`.
     BadBand(Place),
+    /// The band is more than 65,536 finest widths.
     TooFine(Place),
+    /// A bus has no path to ground.
     Floating(Place),
+    /// A bus of a phase network has no path to ground in the zero network.
     PhaseFloating(Place),
+    /// A form that isn't built yet.
     NotBuilt(Place),
+    /// No element of the name touches the bus.
     UnknownElement(Place),
+    /// Memory ran out.
     NoMemory,
+}
+
+/// What is printed of a fault: its number, its name and its place.
+#[derive(Clone, Copy)]
+struct Printed {
+    number: Option<u32>,
+    name: &'static str,
+    place: Option<Place>,
+}
+
+fn row(number: u32, name: &'static str, place: Option<Place>) -> Printed
+    ensures number { result.number ≡ Some number }
+    ensures name { result.name.now ≡ name.entry.now }
+    ensures place { result.place ≡ place }
+{
+    Printed {
+        number: Some(number),
+        name,
+        place,
+    }
 }
 
 impl StudyFault {
     ghost use Rattle.std.specs.Prelude.{◌≡◌, ◌≤◌, length};
-    ghost use Rattle.study_model.specs.Faults.{number_of, name_of, place_of};
+    ghost use Rattle.study_model.specs.Faults.{fault_number, fault_name, fault_place};
 
-    /// The number of a refusal; want of memory has none.
-    pub fn number(&self) -> Option<u32>
-        ensures { result ≡ number_of self.now }
+    fn printed(self) -> Printed
+        ensures number { result.number ≡ fault_number self }
+        ensures name { result.name.now ≡ fault_name self }
+        ensures len { length result.name.now ≤ 15 }
+        ensures place { result.place ≡ fault_place self }
     {
         match self {
-            StudyFault::NotToml => Some(1),
-            StudyFault::VersionUnknown => Some(2),
-            StudyFault::MissingKey(_) => Some(3),
-            StudyFault::UnknownKey(_) => Some(4),
-            StudyFault::WrongKind(_) => Some(5),
-            StudyFault::BareDecimal(_) => Some(6),
-            StudyFault::BadDecimal(_) => Some(7),
-            StudyFault::OutOfRange(_) => Some(8),
-            StudyFault::BadName(_) => Some(9),
-            StudyFault::DuplicateName(_) => Some(10),
-            StudyFault::UnknownBus(_) => Some(11),
-            StudyFault::TooMany(_) => Some(12),
-            StudyFault::BadBand(_) => Some(13),
-            StudyFault::TooFine(_) => Some(14),
-            StudyFault::Floating(_) => Some(15),
-            StudyFault::PhaseFloating(_) => Some(16),
-            StudyFault::NotBuilt(_) => Some(17),
-            StudyFault::UnknownElement(_) => Some(18),
-            StudyFault::NoMemory => None,
+            StudyFault::NotToml => row(1, "NotToml", None),
+            StudyFault::VersionUnknown => row(2, "VersionUnknown", None),
+            StudyFault::MissingKey(place) => row(3, "MissingKey", Some(place)),
+            StudyFault::UnknownKey(place) => row(4, "UnknownKey", Some(place)),
+            StudyFault::WrongKind(place) => row(5, "WrongKind", Some(place)),
+            StudyFault::BareDecimal(place) => row(6, "BareDecimal", Some(place)),
+            StudyFault::BadDecimal(place) => row(7, "BadDecimal", Some(place)),
+            StudyFault::OutOfRange(place) => row(8, "OutOfRange", Some(place)),
+            StudyFault::BadName(place) => row(9, "BadName", Some(place)),
+            StudyFault::DuplicateName(place) => row(10, "DuplicateName", Some(place)),
+            StudyFault::UnknownBus(place) => row(11, "UnknownBus", Some(place)),
+            StudyFault::TooMany(place) => row(12, "TooMany", Some(place)),
+            StudyFault::BadBand(place) => row(13, "BadBand", Some(place)),
+            StudyFault::TooFine(place) => row(14, "TooFine", Some(place)),
+            StudyFault::Floating(place) => row(15, "Floating", Some(place)),
+            StudyFault::PhaseFloating(place) => row(16, "PhaseFloating", Some(place)),
+            StudyFault::NotBuilt(place) => row(17, "NotBuilt", Some(place)),
+            StudyFault::UnknownElement(place) => row(18, "UnknownElement", Some(place)),
+            StudyFault::NoMemory => Printed {
+                number: None,
+                name: "NoMemory",
+                place: None,
+            },
         }
     }
 
-    /// The name of a refusal.
-    pub fn name(&self) -> &'static str
-        ensures name { result.now ≡ name_of self.now }
+    /// The number that is printed, from 1 in the order of the variants. The want of memory has none.
+    pub fn number(self) -> Option<u32>
+        ensures { result ≡ fault_number self }
+    {
+        self.printed().number
+    }
+
+    /// The name that is printed, which is the variant's.
+    pub fn name(self) -> &'static str
+        ensures name { result.now ≡ fault_name self }
         ensures len { length result.now ≤ 15 }
     {
-        match self {
-            StudyFault::NotToml => "NotToml",
-            StudyFault::VersionUnknown => "VersionUnknown",
-            StudyFault::MissingKey(_) => "MissingKey",
-            StudyFault::UnknownKey(_) => "UnknownKey",
-            StudyFault::WrongKind(_) => "WrongKind",
-            StudyFault::BareDecimal(_) => "BareDecimal",
-            StudyFault::BadDecimal(_) => "BadDecimal",
-            StudyFault::OutOfRange(_) => "OutOfRange",
-            StudyFault::BadName(_) => "BadName",
-            StudyFault::DuplicateName(_) => "DuplicateName",
-            StudyFault::UnknownBus(_) => "UnknownBus",
-            StudyFault::TooMany(_) => "TooMany",
-            StudyFault::BadBand(_) => "BadBand",
-            StudyFault::TooFine(_) => "TooFine",
-            StudyFault::Floating(_) => "Floating",
-            StudyFault::PhaseFloating(_) => "PhaseFloating",
-            StudyFault::NotBuilt(_) => "NotBuilt",
-            StudyFault::UnknownElement(_) => "UnknownElement",
-            StudyFault::NoMemory => "NoMemory",
-        }
+        self.printed().name
     }
 
-    /// The place of a refusal, where it has one.
-    pub fn place(&self) -> Option<Place>
-        ensures { result ≡ place_of self.now }
+    /// The place of the fault, where it has one.
+    pub fn place(self) -> Option<Place>
+        ensures { result ≡ fault_place self }
     {
-        match self {
-            StudyFault::NotToml => None,
-            StudyFault::VersionUnknown => None,
-            StudyFault::NoMemory => None,
-            StudyFault::MissingKey(place) => Some(*place),
-            StudyFault::UnknownKey(place) => Some(*place),
-            StudyFault::WrongKind(place) => Some(*place),
-            StudyFault::BareDecimal(place) => Some(*place),
-            StudyFault::BadDecimal(place) => Some(*place),
-            StudyFault::OutOfRange(place) => Some(*place),
-            StudyFault::BadName(place) => Some(*place),
-            StudyFault::DuplicateName(place) => Some(*place),
-            StudyFault::UnknownBus(place) => Some(*place),
-            StudyFault::TooMany(place) => Some(*place),
-            StudyFault::BadBand(place) => Some(*place),
-            StudyFault::TooFine(place) => Some(*place),
-            StudyFault::Floating(place) => Some(*place),
-            StudyFault::PhaseFloating(place) => Some(*place),
-            StudyFault::NotBuilt(place) => Some(*place),
-            StudyFault::UnknownElement(place) => Some(*place),
+        self.printed().place
+    }
+}
+
+#[cfg(test)]
+mod tests {
+    use super::*;
+
+    #[test]
+    fn table_of_faults(rt: HostRuntime) {
+        let place = Place {
+            section: Section::Scan,
+            entry: 2,
+            key: Key::From,
+        };
+        let table = [
+            (StudyFault::NotToml, Some(1), "NotToml"),
+            (StudyFault::VersionUnknown, Some(2), "VersionUnknown"),
+            (StudyFault::MissingKey(place), Some(3), "MissingKey"),
+            (StudyFault::UnknownKey(place), Some(4), "UnknownKey"),
+            (StudyFault::WrongKind(place), Some(5), "WrongKind"),
+            (StudyFault::BareDecimal(place), Some(6), "BareDecimal"),
+            (StudyFault::BadDecimal(place), Some(7), "BadDecimal"),
+            (StudyFault::OutOfRange(place), Some(8), "OutOfRange"),
+            (StudyFault::BadName(place), Some(9), "BadName"),
+            (StudyFault::DuplicateName(place), Some(10), "DuplicateName"),
+            (StudyFault::UnknownBus(place), Some(11), "UnknownBus"),
+            (StudyFault::TooMany(place), Some(12), "TooMany"),
+            (StudyFault::BadBand(place), Some(13), "BadBand"),
+            (StudyFault::TooFine(place), Some(14), "TooFine"),
+            (StudyFault::Floating(place), Some(15), "Floating"),
+            (StudyFault::PhaseFloating(place), Some(16), "PhaseFloating"),
+            (StudyFault::NotBuilt(place), Some(17), "NotBuilt"),
+            (
+                StudyFault::UnknownElement(place),
+                Some(18),
+                "UnknownElement",
+            ),
+            (StudyFault::NoMemory, None, "NoMemory"),
+        ];
+        for (fault, number, name) in table {
+            assert_eq!(rt; fault.number(), number);
+            assert!(rt; fault.name() == name);
         }
+        assert_eq!(rt; StudyFault::VersionUnknown.place(), None);
+        assert_eq!(rt; StudyFault::TooFine(place).place(), Some(place));
+    }
+
+    #[test]
+    fn words_of_places(rt: HostRuntime) {
+        assert_eq!(rt; Section::Top.text(), "top");
+        assert_eq!(rt; Section::Network.text(), "network");
+        assert_eq!(rt; Section::Pcc.text(), "pcc");
+        assert_eq!(rt; Key::Nothing.text(), "-");
+        assert_eq!(rt; Key::SkinM.text(), "skin_m");
+        assert_eq!(rt; Key::FromConn.text(), "from_conn");
     }
 }

@@ -2,11 +2,17 @@
 #![tactic(auto)]
 
 mod fault;
+mod limits;
 mod name;
+mod range;
 mod records;
 mod words;
+mod worked;
 
 pub use fault::{Key, Place, Section, StudyFault};
-pub use name::Name;
+pub use limits::{MAX_BUSES, MAX_ELEMENTS, MAX_POINTS, MAX_SCANS, MAX_SECTIONS, MAX_WIDTHS};
+pub use name::{MAX_NAME_LEN, Name};
+pub use range::Range;
 pub use records::{Bank, Bus, Filter, Line, Load, Pcc, ScanItem, Source, Study, Transformer};
 pub use words::{Connection, FilterKind, LoadModel, Method, Phase, Sequence, StudyModel};
+pub use worked::worked_study_is_lawful;

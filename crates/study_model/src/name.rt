@@ -5,11 +5,14 @@ ghost use Rattle.study_model.specs.NameText.{name_of, is_name, is_name_byte};
 
 use std::marker::Model;
 
+/// The most bytes of a name, which has at least one.
+pub const MAX_NAME_LEN: usize = 32;
+
 /// A name: its first `len` bytes, each a letter, a digit or one of `_ . -`, and zeros after them.
 #[derive(Clone, Copy)]
 pub struct Name {
     pub len: u8,
-    pub bytes: [u8; 32],
+    pub bytes: [u8; MAX_NAME_LEN],
 }
 
 impl Model for Name {
@@ -40,20 +43,21 @@ fn are_name_bytes(text: &[u8]) -> bool
     text.iter().all(|byte| is_name_byte(*byte))
 }
 
+/// Whether a text is a name.
 #[tactic(auto, using(std::proofs::lemmas::Bool::Decides::nat_tests))]
 fn is_name(text: &[u8]) -> bool
     ensures { result ≡ is_name text.now }
 {
-    text.len() >= 1 && text.len() <= 32 && are_name_bytes(text)
+    text.len() >= 1 && text.len() <= MAX_NAME_LEN && are_name_bytes(text)
 }
 
-/// The text, and zeros up to 32 bytes.
+/// The text, and zeros up to the most bytes of a name.
 #[tactic(auto, using(crate::proofs::Names::zeros_left))]
-fn padded(text: &[u8]) -> [u8; 32]
-    requires { length text.now ≤ 32 }
-    ensures { result ≡ text.now ++ replicate (32 - length text.now) 0 }
+fn padded(text: &[u8]) -> [u8; MAX_NAME_LEN]
+    requires { length text.now ≤ MAX_NAME_LEN }
+    ensures { result ≡ text.now ++ replicate (MAX_NAME_LEN - length text.now) 0 }
 {
-    let mut bytes = [0; 32];
+    let mut bytes = [0; MAX_NAME_LEN];
     bytes[..text.len()].copy_from_slice(text);
     bytes
 }
@@ -61,8 +65,8 @@ fn padded(text: &[u8]) -> [u8; 32]
 impl Name {
     ghost use Rattle.std.specs.Prelude.{◌≡◌, ◌≤◌, length};
 
+    /// The text as a name, where it is one: 1 to 32 bytes of letters, digits and `_ . -`.
     #[tactic(auto, using(crate::proofs::Names::name_steps))]
-    /// The text as a name, where it is one.
     pub fn parse(text: &[u8]) -> Option<Name>
         ensures { result ≡ name_of text.now }
     {
@@ -75,10 +79,35 @@ impl Name {
         })
     }
 
+    /// The name's bytes.
     pub fn as_bytes(&self) -> &[u8]
         ensures bytes { result.now ≡ self.now }
-        ensures len { length result.now ≤ 32 }
+        ensures len { length result.now ≤ MAX_NAME_LEN }
     {
         &self.bytes[..self.len as usize]
+    }
+}
+
+#[cfg(test)]
+mod tests {
+    use super::*;
+
+    #[test]
+    fn names(rt: HostRuntime) {
+        for text in ["B1", "a", "A-z_0.9", "abcdefghijklmnopqrstuvwxyz012345"] {
+            assert!(rt;
+                Name::parse(text.as_bytes()).is_some_and(|name| name.as_bytes() == text.as_bytes()),
+                "{text}"
+            );
+        }
+        for text in [
+            "",
+            "a b",
+            "a,b",
+            "\u{e9}",
+            "abcdefghijklmnopqrstuvwxyz0123456",
+        ] {
+            assert!(rt; Name::parse(text.as_bytes()).is_none(), "{text}");
+        }
     }
 }

@@ -1,10 +1,36 @@
-// The words of a study's keys.
+// The words of the keys whose value is a word.
 
 /// The model of a whole study.
 #[derive(Clone, Copy, Debug, PartialEq, Eq)]
 pub enum StudyModel {
     Sequence,
     Phases,
+}
+
+impl StudyModel {
+    ghost use Rattle.std.specs.Prelude.{◌≡◌};
+    ghost use Rattle.study_model.specs.ValueWords.{study_model_text, study_model_of};
+
+    /// The word as it is written.
+    pub fn text(self) -> &'static str
+        ensures { result.now ≡ study_model_text self }
+    {
+        match self {
+            StudyModel::Sequence => "sequence",
+            StudyModel::Phases => "phases",
+        }
+    }
+
+    /// The model that a text is the word of, where there is one.
+    pub fn from_text(text: &str) -> Option<StudyModel>
+        ensures { result ≡ study_model_of text.now }
+    {
+        match text {
+            "sequence" => Some(StudyModel::Sequence),
+            "phases" => Some(StudyModel::Phases),
+            _ => None,
+        }
+    }
 }
 
 /// How a box of orders is tested.
@@ -14,11 +40,63 @@ pub enum Method {
     Both,
 }
 
+impl Method {
+    ghost use Rattle.std.specs.Prelude.{◌≡◌};
+    ghost use Rattle.study_model.specs.ValueWords.{method_text, method_of};
+
+    /// The word as it is written.
+    pub fn text(self) -> &'static str
+        ensures { result.now ≡ method_text self }
+    {
+        match self {
+            Method::Elimination => "elimination",
+            Method::Both => "both",
+        }
+    }
+
+    /// The method that a text is the word of, where there is one.
+    pub fn from_text(text: &str) -> Option<Method>
+        ensures { result ≡ method_of text.now }
+    {
+        match text {
+            "elimination" => Some(Method::Elimination),
+            "both" => Some(Method::Both),
+            _ => None,
+        }
+    }
+}
+
 /// A sequence network.
 #[derive(Clone, Copy, Debug, PartialEq, Eq)]
 pub enum Sequence {
     Positive,
     Zero,
+}
+
+impl Sequence {
+    ghost use Rattle.std.specs.Prelude.{◌≡◌};
+    ghost use Rattle.study_model.specs.ValueWords.{sequence_text, sequence_of};
+
+    /// The word as it is written.
+    pub fn text(self) -> &'static str
+        ensures { result.now ≡ sequence_text self }
+    {
+        match self {
+            Sequence::Positive => "positive",
+            Sequence::Zero => "zero",
+        }
+    }
+
+    /// The network that a text is the word of, where there is one.
+    pub fn from_text(text: &str) -> Option<Sequence>
+        ensures { result ≡ sequence_of text.now }
+    {
+        match text {
+            "positive" => Some(Sequence::Positive),
+            "zero" => Some(Sequence::Zero),
+            _ => None,
+        }
+    }
 }
 
 /// A phase of a three-phase network.
@@ -29,12 +107,68 @@ pub enum Phase {
     C,
 }
 
+impl Phase {
+    ghost use Rattle.std.specs.Prelude.{◌≡◌};
+    ghost use Rattle.study_model.specs.ValueWords.{phase_text, phase_of};
+
+    /// The word as it is written.
+    pub fn text(self) -> &'static str
+        ensures { result.now ≡ phase_text self }
+    {
+        match self {
+            Phase::A => "a",
+            Phase::B => "b",
+            Phase::C => "c",
+        }
+    }
+
+    /// The phase that a text is the word of, where there is one.
+    pub fn from_text(text: &str) -> Option<Phase>
+        ensures { result ≡ phase_of text.now }
+    {
+        match text {
+            "a" => Some(Phase::A),
+            "b" => Some(Phase::B),
+            "c" => Some(Phase::C),
+            _ => None,
+        }
+    }
+}
+
 /// How a transformer's winding is connected.
 #[derive(Clone, Copy, Debug, PartialEq, Eq)]
 pub enum Connection {
     Grounded,
     Star,
     Delta,
+}
+
+impl Connection {
+    ghost use Rattle.std.specs.Prelude.{◌≡◌};
+    ghost use Rattle.study_model.specs.ValueWords.{connection_text, connection_of};
+
+    /// The word as it is written.
+    pub fn text(self) -> &'static str
+        ensures { result.now ≡ connection_text self }
+    {
+        match self {
+            Connection::Grounded => "grounded",
+            Connection::Star => "star",
+            Connection::Delta => "delta",
+        }
+    }
+
+    /// The connection that a text is the word of, where there is one.
+    pub fn from_text(text: &str) -> Option<Connection>
+        ensures { result ≡ connection_of text.now }
+    {
+        match text {
+            "grounded" => Some(Connection::Grounded),
+            "star" => Some(Connection::Star),
+            "delta" => Some(Connection::Delta),
+            _ => None,
+        }
+    }
 }
 
 /// The model of a load.
@@ -45,10 +179,94 @@ pub enum LoadModel {
     Series,
 }
 
+impl LoadModel {
+    ghost use Rattle.std.specs.Prelude.{◌≡◌};
+    ghost use Rattle.study_model.specs.ValueWords.{load_model_text, load_model_of};
+
+    /// The word as it is written.
+    pub fn text(self) -> &'static str
+        ensures { result.now ≡ load_model_text self }
+    {
+        match self {
+            LoadModel::Cigre => "cigre",
+            LoadModel::Parallel => "parallel",
+            LoadModel::Series => "series",
+        }
+    }
+
+    /// The model that a text is the word of, where there is one.
+    pub fn from_text(text: &str) -> Option<LoadModel>
+        ensures { result ≡ load_model_of text.now }
+    {
+        match text {
+            "cigre" => Some(LoadModel::Cigre),
+            "parallel" => Some(LoadModel::Parallel),
+            "series" => Some(LoadModel::Series),
+            _ => None,
+        }
+    }
+}
+
 /// The kind of a tuned filter.
 #[derive(Clone, Copy, Debug, PartialEq, Eq)]
 pub enum FilterKind {
     Single,
     HighPass,
     CType,
+}
+
+impl FilterKind {
+    ghost use Rattle.std.specs.Prelude.{◌≡◌};
+    ghost use Rattle.study_model.specs.ValueWords.{filter_kind_text, filter_kind_of};
+
+    /// The word as it is written.
+    pub fn text(self) -> &'static str
+        ensures { result.now ≡ filter_kind_text self }
+    {
+        match self {
+            FilterKind::Single => "single",
+            FilterKind::HighPass => "highpass",
+            FilterKind::CType => "ctype",
+        }
+    }
+
+    /// The kind that a text is the word of, where there is one.
+    pub fn from_text(text: &str) -> Option<FilterKind>
+        ensures { result ≡ filter_kind_of text.now }
+    {
+        match text {
+            "single" => Some(FilterKind::Single),
+            "highpass" => Some(FilterKind::HighPass),
+            "ctype" => Some(FilterKind::CType),
+            _ => None,
+        }
+    }
+}
+
+#[cfg(test)]
+mod tests {
+    use super::*;
+
+    #[test]
+    fn words(rt: HostRuntime) {
+        assert_eq!(rt; StudyModel::from_text("phases"), Some(StudyModel::Phases));
+        assert_eq!(rt; StudyModel::Sequence.text(), "sequence");
+        assert_eq!(rt; Method::from_text("both"), Some(Method::Both));
+        assert_eq!(rt; Method::from_text("Both"), None);
+        assert_eq!(rt; Method::Elimination.text(), "elimination");
+        assert_eq!(rt; Sequence::from_text("zero"), Some(Sequence::Zero));
+        assert_eq!(rt; Sequence::Positive.text(), "positive");
+        assert_eq!(rt; Phase::from_text("c"), Some(Phase::C));
+        assert_eq!(rt; Phase::from_text("d"), None);
+        assert_eq!(rt; Connection::from_text("delta"), Some(Connection::Delta));
+        assert_eq!(rt; Connection::Grounded.text(), "grounded");
+        assert_eq!(rt; LoadModel::from_text("cigre"), Some(LoadModel::Cigre));
+        assert_eq!(rt; LoadModel::from_text("series"), Some(LoadModel::Series));
+        assert_eq!(rt;
+            FilterKind::from_text("highpass"),
+            Some(FilterKind::HighPass)
+        );
+        assert_eq!(rt; FilterKind::CType.text(), "ctype");
+        assert_eq!(rt; FilterKind::from_text(""), None);
+    }
 }

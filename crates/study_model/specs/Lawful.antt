@@ -1,0 +1,136 @@
+-- What a lawful study is, key by key.
+use Rattle.std.specs.Prelude.{◌≡◌, ◌≢◌, ◌⊎◌, ℕ, pos, ◌<◌, ◌≤◌, ◌≤ℤ◌, ◌<ℤ◌, ◌-ℤ◌, ◌*ℤ◌, IsTrue, List, length, codes, slice_get, option_map, All, AllPairs}
+use Rattle.study_model.specs.NameText.{is_name}
+use Rattle.study_model.specs.Range.{IsIn}
+use Rattle.study_model.specs.Rules.{AreNotBothZero, IsZeroSequence, HasZeroSequence, AreMutual, IsNeutral, IsPower, IsImpedance, IsElementPhase, IsScanned}
+use Rattle.study_model.specs.Elements.{Touches, names_of}
+use Rattle.study_model.specs.declared.limits.TheConstants.{MAX_BUSES, MAX_ELEMENTS, MAX_SCANS, MAX_POINTS, MAX_SECTIONS, MAX_WIDTHS}
+use Rattle.study_model.specs.declared.range.TheConstants.Range.{ORDINARY, ABOVE_ZERO, BASE_MVA, HERTZ, ROOT3, BUS_KV, SKIN_K, SKIN_M, RESISTANCE_PERCENT, REACTANCE_PERCENT, RATIO, TUNED_ORDER, QUALITY, BAND, FINEST, LOCATE, AMPERES}
+use Rattle.study_model.specs.declared.words.StudyModel.{StudyModel}
+use Rattle.study_model.specs.declared.records.Bus.{Bus}
+use Rattle.study_model.specs.declared.records.Source.{Source}
+use Rattle.study_model.specs.declared.records.Line.{Line}
+use Rattle.study_model.specs.declared.records.Transformer.{Transformer}
+use Rattle.study_model.specs.declared.records.Load.{Load}
+use Rattle.study_model.specs.declared.records.Bank.{Bank}
+use Rattle.study_model.specs.declared.records.Filter.{Filter}
+use Rattle.study_model.specs.declared.records.ScanItem.{ScanItem}
+use Rattle.study_model.specs.declared.records.Pcc.{Pcc}
+use Rattle.study_model.specs.declared.records.Study.{Study}
+
+-- 1 to 32 bytes of a name
+abbrev pub IsName : List ℕ → Type 0
+IsName name = IsTrue (is_name name)
+
+-- the number of a bus
+abbrev pub IsBus : List Bus → ℕ → Type 0
+IsBus buses bus = bus < length buses
+
+-- two buses that differ and have the same nominal voltage
+abbrev pub HaveEqualKv : List Bus → ℕ → ℕ → Type 0
+HaveEqualKv buses from to = option_map (λ bus. bus.kv) (slice_get buses from) ≡ option_map (λ bus. bus.kv) (slice_get buses to)
+
+pub record IsLawfulBus (bus : Bus) : Type 0 where
+  pub name : IsName bus.name
+  pub kv : IsIn BUS_KV bus.kv
+
+pub record IsLawfulSource (buses : List Bus) (source : Source) : Type 0 where
+  pub name : IsName source.name
+  pub bus : IsBus buses source.bus
+  pub r : IsIn ORDINARY source.r
+  pub x : IsIn ORDINARY source.x × AreNotBothZero source.r source.x
+  pub r0_x0 : IsZeroSequence source.r0 source.x0
+  pub skin_k : IsIn SKIN_K source.skin_k
+  pub skin_m : IsIn SKIN_M source.skin_m
+
+pub record IsLawfulLine (model : StudyModel) (buses : List Bus) (line : Line) : Type 0 where
+  pub name : IsName line.name
+  pub from : IsBus buses line.from
+  pub to : IsBus buses line.to × (line.from ≢ line.to) × HaveEqualKv buses line.from line.to
+  pub r : IsIn ORDINARY line.r
+  pub x : IsIn ORDINARY line.x × AreNotBothZero line.r line.x
+  pub b : IsIn ORDINARY line.b
+  pub r0_x0 : IsZeroSequence line.r0 line.x0 × HasZeroSequence model line.r0
+  pub b0 : IsIn ORDINARY line.b0 × (line.b0 ≤ℤ line.b)
+  pub sections : (1 ≤ line.sections) × (line.sections ≤ MAX_SECTIONS)
+  pub xab_xbc_xca : AreMutual model line.xab line.xbc line.xca
+  pub skin_k : IsIn SKIN_K line.skin_k
+  pub skin_m : IsIn SKIN_M line.skin_m
+
+pub record IsLawfulTransformer (buses : List Bus) (transformer : Transformer) : Type 0 where
+  pub name : IsName transformer.name
+  pub from : IsBus buses transformer.from
+  pub to : IsBus buses transformer.to × (transformer.from ≢ transformer.to)
+  pub mva : IsIn BASE_MVA transformer.mva
+  pub r : IsIn RESISTANCE_PERCENT transformer.r
+  pub x : IsIn REACTANCE_PERCENT transformer.x
+  pub ratio : IsIn RATIO transformer.ratio
+  pub from_rn_from_xn : IsNeutral transformer.from_conn transformer.from_rn transformer.from_xn
+  pub to_rn_to_xn : IsNeutral transformer.to_conn transformer.to_rn transformer.to_xn
+  pub skin_k : IsIn SKIN_K transformer.skin_k
+  pub skin_m : IsIn SKIN_M transformer.skin_m
+
+pub record IsLawfulLoad (model : StudyModel) (buses : List Bus) (load : Load) : Type 0 where
+  pub name : IsName load.name
+  pub bus : IsBus buses load.bus
+  pub p_q : IsPower load.model load.p load.q
+  pub r_x : IsImpedance load.model load.r load.x
+  pub phase : IsElementPhase model load.phase
+
+pub record IsLawfulBank (model : StudyModel) (buses : List Bus) (bank : Bank) : Type 0 where
+  pub name : IsName bank.name
+  pub bus : IsBus buses bank.bus
+  pub q : IsIn ABOVE_ZERO bank.q
+  pub phase : IsElementPhase model bank.phase
+
+pub record IsLawfulFilter (model : StudyModel) (buses : List Bus) (filter : Filter) : Type 0 where
+  pub name : IsName filter.name
+  pub bus : IsBus buses filter.bus
+  pub q : IsIn ABOVE_ZERO filter.q
+  pub order : IsIn TUNED_ORDER filter.order
+  pub quality : IsIn QUALITY filter.quality
+  pub phase : IsElementPhase model filter.phase
+
+pub record IsLawfulScan (model : StudyModel) (buses : List Bus) (scan : ScanItem) : Type 0 where
+  pub name : IsName scan.name × (scan.name ≢ codes "limits")
+  pub bus : IsBus buses scan.bus
+  pub network_phase : IsScanned model scan.network scan.phase
+  pub from : IsIn BAND scan.from
+  pub to : IsIn BAND scan.to × (scan.from <ℤ scan.to)
+  pub threshold : IsIn ABOVE_ZERO scan.threshold
+  pub finest : IsIn FINEST scan.finest × ((scan.to -ℤ scan.from) ≤ℤ (pos MAX_WIDTHS *ℤ scan.finest))
+  pub locate : IsIn LOCATE scan.locate × (scan.finest ≤ℤ scan.locate)
+
+pub record IsLawfulPcc (study : Study) (point : Pcc) : Type 0 where
+  pub name : IsName point.name
+  pub bus : IsBus study.buses point.bus
+  pub element : Touches study point.element point.bus
+  pub isc : IsIn AMPERES point.isc
+  pub il : IsIn AMPERES point.il
+
+-- The header, then each section's count and entries, then the names, which differ over all sections.
+pub record IsLawful (study : Study) : Type 0 where
+  pub version : study.version ≡ 1
+  pub mva : IsIn BASE_MVA study.mva
+  pub hz : IsIn HERTZ study.hz
+  pub scale : (study.scale ≡ 40) ⊎ (study.scale ≡ 48)
+  pub root3 : IsIn ROOT3 study.root3
+  pub buses_count : (1 ≤ length study.buses) × (length study.buses ≤ MAX_BUSES)
+  pub buses : All IsLawfulBus study.buses
+  pub sources_count : length study.sources ≤ MAX_ELEMENTS
+  pub sources : All (IsLawfulSource study.buses) study.sources
+  pub lines_count : length study.lines ≤ MAX_ELEMENTS
+  pub lines : All (IsLawfulLine study.model study.buses) study.lines
+  pub transformers_count : length study.transformers ≤ MAX_ELEMENTS
+  pub transformers : All (IsLawfulTransformer study.buses) study.transformers
+  pub loads_count : length study.loads ≤ MAX_ELEMENTS
+  pub loads : All (IsLawfulLoad study.model study.buses) study.loads
+  pub banks_count : length study.banks ≤ MAX_ELEMENTS
+  pub banks : All (IsLawfulBank study.model study.buses) study.banks
+  pub filters_count : length study.filters ≤ MAX_ELEMENTS
+  pub filters : All (IsLawfulFilter study.model study.buses) study.filters
+  pub scans_count : length study.scans ≤ MAX_SCANS
+  pub scans : All (IsLawfulScan study.model study.buses) study.scans
+  pub points_count : length study.points ≤ MAX_POINTS
+  pub points : All (IsLawfulPcc study) study.points
+  pub names : AllPairs ◌≢◌ (names_of study)

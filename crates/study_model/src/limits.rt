@@ -1,0 +1,19 @@
+// How many entries a section has, and how fine a line and a band are.
+
+/// The most buses of a study, which has at least one.
+pub const MAX_BUSES: u32 = 60;
+
+/// The most sources of a study, and so of lines, transformers, loads, banks and filters.
+pub const MAX_ELEMENTS: u32 = 200;
+
+/// The most scans of a study.
+pub const MAX_SCANS: u32 = 16;
+
+/// The most points of common coupling of a study.
+pub const MAX_POINTS: u32 = 32;
+
+/// The most sections of a line, which has at least one.
+pub const MAX_SECTIONS: u32 = 64;
+
+/// The most finest widths of a scan's band.
+pub const MAX_WIDTHS: u32 = 65_536;
