@@ -5,5 +5,7 @@ mod arrays;
 mod entries;
 mod keys;
 mod study;
+#[cfg(test)]
+mod tests;
 
 pub use study::read_study;
