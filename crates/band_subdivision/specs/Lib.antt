@@ -8,3 +8,4 @@ pub mod IntervalTest
 pub mod Testing
 pub mod Truth
 pub mod BoxText
+pub mod WorkedBounds

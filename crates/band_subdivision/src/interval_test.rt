@@ -169,3 +169,6 @@ fn micro_ohms(scale: u32, levels: &ScanLevels, high: u128) -> i128
     let below = size_of(levels.mva) * root_ceil(high) as u128;
     signed(kv * kv * unit_of(scale) / below)
 }
+
+#[cfg(test)]
+mod tests;

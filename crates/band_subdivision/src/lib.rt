@@ -3,6 +3,7 @@
 
 ghost use Rattle.band_subdivision.specs.Truth.{IntervalTestIsSound, BoxesAreTrue};
 ghost use Rattle.band_subdivision.specs.BoxText.{BoxesHaveText};
+ghost use Rattle.band_subdivision.specs.WorkedBounds.{WorkedBounds};
 
 pub mod boxes;
 pub mod interval_test;
@@ -28,4 +29,9 @@ pub fn boxes_are_true()
 /// A report can write each box of an interval test.
 pub fn boxes_have_text()
     ensures law { BoxesHaveText }
+{}
+
+/// Bounds worked by hand.
+pub fn worked_bounds()
+    ensures law { WorkedBounds }
 {}
