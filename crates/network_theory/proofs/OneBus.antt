@@ -19,7 +19,7 @@ use Rattle.network_theory.specs.OneNode.{ground_tap, IsOneNode, sum_of}
 use Rattle.network_theory.proofs.OneNode.{real-unit, only_node, node_live, ground_parts, one_node_system, one_node_reduced}
 use Rattle.std.specs.List.{AllZip}
 use Rattle.network_theory.specs.Admittance.{IsAdmittance}
-use Rattle.network_theory.specs.OneBus.{to_ground, one_bus, SeriesAlone, BesideShunt, AtThreeAndAQuarter, NoneAtFive}
+use Rattle.network_theory.specs.OneBus.{to_ground, one_bus, SeriesAlone, BesideShunt, AtThreeAndAQuarter, AtFiveAndAQuarter, NoneAtFive}
 use Rattle.exact_algebra.proofs.Reals.{plus_j_same}
 use Rattle.network_theory.proofs.Numbers.{R, one_at, one_at-apart}
 use Rattle.network_theory.proofs.Only.{only_impedance}
@@ -192,3 +192,27 @@ five_sum = record { re = record { cross = refl }; im = record { cross = refl } }
 
 pub none_at_five : NoneAtFive
 none_at_five = (beside_shunt (record { n = 5; d = 1 }) (whole (pos 0)) (whole (pos 0)) (whole (pos 1)) (whole (pos 1)) (whole (pos 0)) (over (pos 4) 100) (complex_over (pos 0) (negsuc 0) 5) five_series).none five_sum
+
+quarter_series : series_impedance (over (pos 1) 10) (whole (pos 0)) (whole (pos 1)) (whole (pos 1)) (whole (pos 0)) (record { n = 21; d = 4 }) ⊗ complex_over (pos 40) (negsuc 2099) 11029 ≈ unit
+unfolding series_impedance resistance reactance ◌+j◌ times plus opposite whole common den reciprocal reciprocal_of complex_times complex_whole real_part imaginary_part
+quarter_series = record { re = record { cross = refl }; im = record { cross = refl } }
+
+quarter_product : complex_over (pos 4411600000) (negsuc 23832566099) 482948881 ⊗ (complex_over (pos 40) (negsuc 2099) 11029 ⊕ shunt_admittance (over (pos 4) 100) (record { n = 21; d = 4 })) ≈ unit
+unfolding shunt_admittance ◌+j◌ times whole common den complex_plus complex_times complex_whole real_part imaginary_part
+quarter_product = record { re = record { cross = refl }; im = record { cross = refl } }
+
+quarter_square : square_size (complex_over (pos 4411600000) (negsuc 23832566099) 482948881) ≈ᵣ over (pos 1216388410000) 482948881
+unfolding square_size den
+quarter_square = record { cross = refl }
+
+-- a number whose product is 1 has factors other than 0
+factor_apart : (Z y : C) → Z ⊗ y ≈ unit → ¬ (y ≈ nought)
+factor_apart Z y e n = complex_field.unit_apart (next (back e) (next (mul_same (same Z) n) (ring R (Z ∷ []) (search reads depth 40 fits 4000) none_left)))
+
+pub at_five_and_a_quarter : AtFiveAndAQuarter
+at_five_and_a_quarter = record {
+  exists =
+      (beside_shunt (record { n = 21; d = 4 }) (over (pos 1) 10) (whole (pos 0)) (whole (pos 1)) (whole (pos 1)) (whole (pos 0)) (over (pos 4) 100) (complex_over (pos 40) (negsuc 2099) 11029) quarter_series).exists
+      (factor_apart _ _ quarter_product) _ quarter_product;
+  square = quarter_square;
+}

@@ -1,5 +1,5 @@
 -- Networks of one bus, whose branches go to ground: cases that can be worked by hand.
-use Rattle.std.specs.Prelude.{pos, List, [], ◌∷◌, map}
+use Rattle.std.specs.Prelude.{pos, negsuc, List, [], ◌∷◌, map}
 use Rattle.exact_algebra.specs.Ratio.{Ratio, ◌≈◌ as ◌≈ᵣ◌, over, whole, times}
 use Rattle.exact_algebra.specs.Complex.{Complex, complex_numbers, complex_over, ◌+j◌, square_size}
 use Rattle.network_theory.specs.Order.{Order, fraction}
@@ -43,3 +43,8 @@ pub record AtThreeAndAQuarter : Type 0 where
 -- order 5, with r = 0 and x = 1 beside b = 4/100: no impedance exists
 abbrev pub NoneAtFive : Type 0
 NoneAtFive = (Z : Complex) → ¬ IsDrivingPoint (one_bus (Series (whole (pos 0)) (whole (pos 0)) (whole (pos 1)) (whole (pos 1)) (whole (pos 0)) ∷ Shunt (over (pos 4) 100) ∷ [])) (record { n = 5; d = 1 }) 0 Z
+
+-- order 21/4, with r = 1/10 and x = 1 beside b = 4/100: at 10 kV and 100 MVA, where 1 per unit is 1 ohm, the impedance has about 50.186 ohms
+pub record AtFiveAndAQuarter : Type 0 where
+  pub exists : IsDrivingPoint (one_bus (Series (over (pos 1) 10) (whole (pos 0)) (whole (pos 1)) (whole (pos 1)) (whole (pos 0)) ∷ Shunt (over (pos 4) 100) ∷ [])) (record { n = 21; d = 4 }) 0 (complex_over (pos 4411600000) (negsuc 23832566099) 482948881)
+  pub square : square_size (complex_over (pos 4411600000) (negsuc 23832566099) 482948881) ≈ᵣ over (pos 1216388410000) 482948881

@@ -7,7 +7,7 @@ ghost use Rattle.network_theory.specs.Figures.{WorkedFigures};
 ghost use Rattle.network_theory.specs.Cases.{WorkedCases};
 ghost use Rattle.network_theory.specs.Extra.{ExtraShunt};
 ghost use Rattle.network_theory.specs.OneNode.{OneNodeReduced};
-ghost use Rattle.network_theory.specs.OneBus.{SeriesAlone, BesideShunt, AtThreeAndAQuarter, NoneAtFive};
+ghost use Rattle.network_theory.specs.OneBus.{SeriesAlone, BesideShunt, AtThreeAndAQuarter, AtFiveAndAQuarter, NoneAtFive};
 
 /// The live nodes are in every set that is closed.
 pub fn live_is_least()
@@ -74,7 +74,12 @@ pub fn at_three_and_a_quarter()
     ensures law { AtThreeAndAQuarter }
 {}
 
-/// No impedance at order 5, where the branches resonate.
+/// An impedance of about 50.186 ohms at order 5.25, beside the resonance.
+pub fn at_five_and_a_quarter()
+    ensures law { AtFiveAndAQuarter }
+{}
+
+// No impedance at order 5, where the branches resonate.
 pub fn none_at_five()
     ensures law { NoneAtFive }
 {}
