@@ -15,15 +15,16 @@ use std::marker::Model;
 /// What a scan compares an impedance with, and its base values.
 #[derive(Clone, Copy)]
 pub struct ScanLevels {
-    /// The threshold, in ohms.
+    /// The threshold, in ohms: above 0.
     pub threshold: Decimal,
-    /// The nominal voltage, in kV.
+    /// The nominal voltage, in kV: from 0.1 to 2000.
     pub kv: Decimal,
-    /// The base power, in MVA.
+    /// The base power, in MVA: from 0.001 to 10000.
     pub mva: Decimal,
 }
 
-/// A test of boxes by a network's reduction. The bounds of the levels are computed once.
+/// A test of boxes by a network's reduction: clear where the admittance is at least 1/T over the whole box, for the threshold T per unit,
+/// and above where it is less and other than zero. Both bounds are computed once.
 #[derive(Drop)]
 pub struct IntervalTest<R: Reduction> {
     reduction: R,
@@ -44,7 +45,7 @@ impl<R: Reduction> Model for IntervalTest<R> {
 
 #[tactic(auto, unfolding(crate::specs::IntervalTest::clear_bound, crate::specs::IntervalTest::above_bound))]
 impl<R: Reduction> IntervalTest<R> {
-    /// The test of a scan with these levels.
+    /// The test of a scan with these levels. Condition: they are in range.
     pub fn new(reduction: R, levels: ScanLevels) -> IntervalTest<R>
         requires { AreScanLevels levels }
         ensures test { (⟦<IntervalTest<R> as TestsBoxes>⟧.test result) ≡ interval_test R.Interval.SCALE levels (R.reduced reduction) }

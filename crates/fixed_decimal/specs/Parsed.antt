@@ -6,10 +6,11 @@ use Rattle.std.specs.Char.{is_ascii_digit}
 use Rattle.fixed_decimal.specs.declared.fault.DecimalFault.{DecimalFault}
 use Rattle.fixed_decimal.specs.declared.fault.DecimalFault.TheVariants.{Empty, BadByte, TooManyPlaces, TooLarge}
 
--- the longest run of digits at the front of a text, and what comes after it
+-- the longest run of digits at the front of a text
 abbrev pub digits : List ℕ → List ℕ
 digits text = take (prefix_len is_ascii_digit text) text
 
+-- what comes after it
 abbrev pub after_digits : List ℕ → List ℕ
 after_digits text = drop (prefix_len is_ascii_digit text) text
 
@@ -51,6 +52,7 @@ with_digits negative text =
     let pointed = nat_lt 0 (length (digits text)) && begins_with 46 (after_digits text) in
     with_places negative (digits text) pointed (past_first pointed (after_digits text))
 
+-- the parts of a text
 unfoldable pub parts_of : List ℕ → Parts
 parts_of text = with_digits (begins_with 45 text) (past_first (begins_with 45 text) text)
 

@@ -4,7 +4,7 @@ ghost use Rattle.std.specs.Prelude.{◌<◌, ◌^◌, ◌*◌, unsigned_abs};
 use std::marker::Model;
 
 /// A decimal of at most six places, as its whole number of millionths, of size below 10^12. Contracts see it as that number.
-#[derive(Clone, Copy)]
+#[derive(Clone, Copy, Debug, PartialEq, Eq)]
 pub struct Decimal {
     pub millionths: i64,
 }

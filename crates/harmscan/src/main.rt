@@ -3,9 +3,8 @@
 
 use harm_io::{FileShelf, Sink, StreamSink};
 use harmscan_core::run;
-use std::env;
-use std::io;
 use std::process::ExitCode;
+use std::{env, io};
 
 /// The words of the command line, without the program's name.
 fn words(rt: &HostRuntime) -> io::Result<Vec<String>> {

@@ -1,10 +1,13 @@
 -- When each status comes, from what a run does.
-use Rattle.std.proofs.Common.{◌≡◌, ◌≢◌, ◌⊎◌, inl, inr, ℕ, ◌<◌, Bool, true, false, cond, List, Option, Some, None, refl, ap, sym, ◌∙◌, arith}
+use Rattle.std.proofs.Common.{◌≡◌, ◌≢◌, ◌⊎◌, inl, inr, ℕ, ◌<◌, Bool, true, false, cond, List, [], ◌∷◌, ◌++◌, length, Option, Some, None, IfSome, subst, refl, ap, sym, ◌∙◌, arith}
 use Rattle.harm_io.specs.Shelves.{ShelfState, asked_too}
 use Rattle.harm_io.specs.Sinks.{SinkState, took}
 use Rattle.study_model.specs.declared.records.Study.{Study}
 use Rattle.harmscan_core.specs.Report.{report_status}
-use Rattle.harmscan_core.specs.Outcome.{HappensFor, status_at}
+use Rattle.harm_io.specs.Causes.{Rose}
+use Rattle.study_reader.specs.StudyOf.{Refused as RefusedFor}
+use Rattle.harmscan_core.specs.Lines.{line_at}
+use Rattle.harmscan_core.specs.Outcome.{HappensFor, status_at, Asks, IsWritten, IsRefusal, WritesReport, StopsWithin, RefusesFor, Says, longest_file}
 use Rattle.harmscan_core.specs.declared.outcome.Outcome.{Outcome}
 use Rattle.harmscan_core.specs.declared.outcome.Outcome.TheVariants.{WordsRefused, ReadFailed, TooLarge, Refused, WriteFailed, NoMemory, Written}
 
@@ -96,3 +99,71 @@ memory_rose (Some name) s t out out' (Refused f) h r = absurd (same_refused out 
 memory_rose (Some name) s t out out' WriteFailed h r = let f : out'.refused ≡ out.refused = h.1.holds.refused in absurd (omega arith)
 memory_rose (Some name) s t out out' NoMemory h r = refl
 memory_rose (Some name) s t out out' (Written x) h r = absurd (took_refused out out' _ h.1.holds.written r)
+
+-- ---- what each status says
+asked_one : (s t : ShelfState) (name : List ℕ) → t ≡ asked_too s name → Asks (Some name) s t
+asked_one s t name e = record { asked = inr (ap (λ (x : ShelfState). x.asked) e); file = ap (λ (x : ShelfState). x.file) e }
+
+asked_either : (s t : ShelfState) (name : List ℕ) → (t ≡ s) ⊎ (t ≡ asked_too s name) → Asks (Some name) s t
+asked_either s t name (inl e) = record { asked = inl (ap (λ (x : ShelfState). x.asked) e); file = ap (λ (x : ShelfState). x.file) e }
+asked_either s t name (inr e) = asked_one s t name e
+
+pub asks_once : (w : Option (List ℕ)) (s t : ShelfState) (out out' : SinkState) (o : Outcome) → HappensFor w s t out out' o → Asks w s t
+asks_once None s t out out' o h = h.1
+asks_once (Some name) s t out out' WordsRefused h = absurd h
+asks_once (Some name) s t out out' ReadFailed h = record { asked = inr h.0.asked; file = h.0.file }
+asks_once (Some name) s t out out' TooLarge h = asked_one s t name h.0
+asks_once (Some name) s t out out' (Refused f) h = asked_one s t name h.0
+asks_once (Some name) s t out out' WriteFailed h = asked_one s t name h.0
+asks_once (Some name) s t out out' NoMemory (inl h) = asked_either s t name h.0
+asks_once (Some name) s t out out' NoMemory (inr h) = asked_one s t name h.0
+asks_once (Some name) s t out out' (Written x) h = asked_one s t name h.0
+
+apart_from : (n m : ℕ) → n ≡ m → IsWritten m → (n ≢ 0) → (n ≢ 3) → (n ≢ 4) → ⊥
+apart_from n m e (inl h) a b c = a (e ∙ h)
+apart_from n m e (inr (inl h)) a b c = b (e ∙ h)
+apart_from n m e (inr (inr h)) a b c = c (e ∙ h)
+
+-- at 0, 3 and 4 the report is whole, and what it claims holds
+writes_report : (w : Option (List ℕ)) (s t : ShelfState) (out out' : SinkState) (o : Outcome) → HappensFor w s t out out' o → IsWritten (status_at o) → WritesReport w s t out out' (status_at o)
+writes_report None s t out out' o h p = absurd (apart_from 1 (status_at o) (sym (ap status_at h.0)) p (λ e. omega arith) (λ e. omega arith) (λ e. omega arith))
+writes_report (Some name) s t out out' WordsRefused h p = absurd h
+writes_report (Some name) s t out out' ReadFailed h p = absurd (apart_from 5 5 refl p (λ e. omega arith) (λ e. omega arith) (λ e. omega arith))
+writes_report (Some name) s t out out' TooLarge h p = absurd (apart_from 2 2 refl p (λ e. omega arith) (λ e. omega arith) (λ e. omega arith))
+writes_report (Some name) s t out out' (Refused f) h p = absurd (apart_from 2 2 refl p (λ e. omega arith) (λ e. omega arith) (λ e. omega arith))
+writes_report (Some name) s t out out' WriteFailed h p = absurd (apart_from 6 6 refl p (λ e. omega arith) (λ e. omega arith) (λ e. omega arith))
+writes_report (Some name) s t out out' NoMemory h p = absurd (apart_from 7 7 refl p (λ e. omega arith) (λ e. omega arith) (λ e. omega arith))
+writes_report (Some name) s t out out' (Written x) h p = h
+
+pub writes_report_at : (w : Option (List ℕ)) (s t : ShelfState) (out out' : SinkState) (o : Outcome) (n : ℕ) → HappensFor w s t out out' o → n ≡ status_at o → IsWritten n → WritesReport w s t out out' n
+writes_report_at w s t out out' o n h e p = subst (λ (m : ℕ). WritesReport w s t out out' m) (sym e) (writes_report w s t out out' o h (subst IsWritten e p))
+
+refusal_is : (n : ℕ) → IsRefusal n → n ≢ 1 → n ≢ 2 → n ≢ 5 → ⊥
+refusal_is n (inl h) a b c = a h
+refusal_is n (inr (inl h)) a b c = b h
+refusal_is n (inr (inr h)) a b c = c h
+
+-- at 1, 2 and 5 nothing was put
+pub nothing_put : (w : Option (List ℕ)) (s t : ShelfState) (out out' : SinkState) (o : Outcome) → HappensFor w s t out out' o → IsRefusal (status_at o) → out' ≡ out
+nothing_put None s t out out' o h p = h.2
+nothing_put (Some name) s t out out' WordsRefused h p = absurd h
+nothing_put (Some name) s t out out' ReadFailed h p = h.1
+nothing_put (Some name) s t out out' TooLarge h p = h.2
+nothing_put (Some name) s t out out' (Refused f) h p = h.2
+nothing_put (Some name) s t out out' WriteFailed h p = absurd (refusal_is 6 p (λ e. omega arith) (λ e. omega arith) (λ e. omega arith))
+nothing_put (Some name) s t out out' NoMemory h p = absurd (refusal_is 7 p (λ e. omega arith) (λ e. omega arith) (λ e. omega arith))
+nothing_put (Some name) s t out out' (Written x) h p =
+    let r = reported h.1.study in
+    let is = h.1.holds.status_is in
+    absurd (refusal_is x p (λ e. r.one (sym is ∙ e)) (λ e. r.two (sym is ∙ e)) (λ e. r.five (sym is ∙ e)))
+
+-- at 6 a front of the report was taken
+pub stops_within : (w : Option (List ℕ)) (s t : ShelfState) (out out' : SinkState) (o : Outcome) → HappensFor w s t out out' o → status_at o ≡ 6 → StopsWithin w s out out'
+stops_within None s t out out' o h e = absurd (let one : 1 ≡ 6 = sym (ap status_at h.0) ∙ e in omega arith)
+stops_within (Some name) s t out out' WordsRefused h e = absurd h
+stops_within (Some name) s t out out' ReadFailed h e = absurd (omega arith)
+stops_within (Some name) s t out out' TooLarge h e = absurd (omega arith)
+stops_within (Some name) s t out out' (Refused f) h e = absurd (omega arith)
+stops_within (Some name) s t out out' WriteFailed h e = h.1
+stops_within (Some name) s t out out' NoMemory h e = absurd (omega arith)
+stops_within (Some name) s t out out' (Written x) h e = absurd ((reported h.1.study).six (sym h.1.holds.status_is ∙ e))

@@ -4,10 +4,11 @@ use Rattle.harm_io.specs.Causes.{Rose}
 use Rattle.harm_io.specs.Shelves.{ShelfState}
 use Rattle.harm_io.specs.Sinks.{SinkState, took}
 use Rattle.study_reader.specs.StudyOf.{IsStudy, Refused}
-use Rattle.study_reader.proofs.Refusals.{same_study, not_refused}
+use Rattle.study_reader.proofs.Refusals.{same_study, not_refused, same_refusal}
 use Rattle.study_model.specs.declared.records.Study.{Study}
 use Rattle.study_model.specs.declared.fault.StudyFault.{StudyFault}
-use Rattle.harmscan_core.specs.Outcome.{Happens, HappensFor, status_at, IsComplete, IsReported, longest_file}
+use Rattle.harmscan_core.specs.Outcome.{Happens, HappensFor, status_at, IsComplete, IsReported, RefusesFor, Says}
+use Rattle.harmscan_core.specs.Lines.{line_at}
 use Rattle.harmscan_core.specs.declared.outcome.Outcome.{Outcome}
 use Rattle.harmscan_core.specs.declared.outcome.Outcome.TheVariants.{WordsRefused, ReadFailed, TooLarge, Refused as RefusedFor, WriteFailed, NoMemory, Written}
 
@@ -37,3 +38,46 @@ pub complete_for : (w : Option (List ℕ)) (name bytes : List ℕ) (study : Stud
 complete_for None name bytes study s t out out' o h e = absurd (cc)
 complete_for (Some other) name bytes study s t out out' o h e =
     let same : other ≡ name = cc in complete name bytes study s t out out' o (subst (λ (n : List ℕ). Happens n s t out out' o) same h)
+
+-- ---- refusals
+-- a study that is told and refused is refused for that fault, unless memory is wanting
+pub refused_at : (name bytes : List ℕ) (f : StudyFault) (s t : ShelfState) (out out' err err' : SinkState) (o : Outcome) → Happens name s t out out' o → Says (line_at o) err err'
+    → s.file name ≡ Some bytes → length bytes ≤ 4194304 → Refused bytes f → (Rose s.faults t.faults → ⊥) → RefusesFor (RefusedFor f) (status_at o) out out' err err'
+refused_at name bytes f s t out out' err err' WordsRefused h said e small r sr = absurd h
+refused_at name bytes f s t out out' err err' ReadFailed h said e small r sr = absurd (sr h.0.cause.rose)
+refused_at name bytes f s t out out' err err' TooLarge h said e small r sr = let more : 4194304 < length bytes = longer bytes (s.file name) 4194304 e h.1 in absurd (omega arith)
+refused_at name bytes f s t out out' err err' (RefusedFor g) h said e small r sr =
+    let same : g ≡ f = same_refusal bytes g f (subst (λ (x : List ℕ). Refused x g) (told bytes h.1.bytes (s.file name) e h.1.given) h.1.is) r in
+    inr (refl, h.2, subst (λ (x : StudyFault). Says (line_at (RefusedFor x)) err err') same said)
+refused_at name bytes f s t out out' err err' WriteFailed h said e small r sr =
+    absurd (not_refused bytes h.1.study f (subst (λ (y : List ℕ). IsStudy y h.1.study) (told bytes h.1.bytes (s.file name) e h.1.given) h.1.is) r)
+refused_at name bytes f s t out out' err err' NoMemory h said e small r sr = inl refl
+refused_at name bytes f s t out out' err err' (Written x) h said e small r sr =
+    absurd (not_refused bytes h.1.study f (subst (λ (y : List ℕ). IsStudy y h.1.study) (told bytes h.1.bytes (s.file name) e h.1.given) h.1.is) r)
+
+pub refused_for : (w : Option (List ℕ)) (name bytes : List ℕ) (f : StudyFault) (s t : ShelfState) (out out' err err' : SinkState) (o : Outcome) → HappensFor w s t out out' o → Says (line_at o) err err' → w ≡ Some name
+    → s.file name ≡ Some bytes → length bytes ≤ 4194304 → Refused bytes f → (Rose s.faults t.faults → ⊥) → RefusesFor (RefusedFor f) (status_at o) out out' err err'
+refused_for None name bytes f s t out out' err err' o h said e = absurd (cc)
+refused_for (Some other) name bytes f s t out out' err err' o h said e =
+    let same : other ≡ name = cc in refused_at name bytes f s t out out' err err' o (subst (λ (n : List ℕ). Happens n s t out out' o) same h) said
+
+-- given bytes that fit are not told to be too large
+fitting : (bytes b : List ℕ) (file : Option (List ℕ)) → file ≡ Some bytes → IfSome file (λ c. b ≡ c) → length b ≤ 4194304 → 4194304 < length bytes → ⊥
+fitting bytes b file e given fits large = let same : length b ≡ length bytes = ap length (told bytes b file e given) in omega arith
+
+-- a file that is told to be too large is refused so, unless memory is wanting
+too_large_at : (name bytes : List ℕ) (s t : ShelfState) (out out' err err' : SinkState) (o : Outcome) → Happens name s t out out' o → Says (line_at o) err err'
+    → s.file name ≡ Some bytes → 4194304 < length bytes → (Rose s.faults t.faults → ⊥) → RefusesFor TooLarge (status_at o) out out' err err'
+too_large_at name bytes s t out out' err err' WordsRefused h said e large sr = absurd h
+too_large_at name bytes s t out out' err err' ReadFailed h said e large sr = absurd (sr h.0.cause.rose)
+too_large_at name bytes s t out out' err err' TooLarge h said e large sr = inr (refl, h.2, said)
+too_large_at name bytes s t out out' err err' (RefusedFor g) h said e large sr = absurd (fitting bytes h.1.bytes (s.file name) e h.1.given h.1.fits large)
+too_large_at name bytes s t out out' err err' WriteFailed h said e large sr = absurd (fitting bytes h.1.bytes (s.file name) e h.1.given h.1.fits large)
+too_large_at name bytes s t out out' err err' NoMemory h said e large sr = inl refl
+too_large_at name bytes s t out out' err err' (Written x) h said e large sr = absurd (fitting bytes h.1.bytes (s.file name) e h.1.given h.1.fits large)
+
+pub too_large_for : (w : Option (List ℕ)) (name bytes : List ℕ) (s t : ShelfState) (out out' err err' : SinkState) (o : Outcome) → HappensFor w s t out out' o → Says (line_at o) err err' → w ≡ Some name
+    → s.file name ≡ Some bytes → 4194304 < length bytes → (Rose s.faults t.faults → ⊥) → RefusesFor TooLarge (status_at o) out out' err err'
+too_large_for None name bytes s t out out' err err' o h said e = absurd (cc)
+too_large_for (Some other) name bytes s t out out' err err' o h said e =
+    let same : other ≡ name = cc in too_large_at name bytes s t out out' err err' o (subst (λ (n : List ℕ). Happens n s t out out' o) same h) said

@@ -1,5 +1,5 @@
 -- What a run does to the shelf and the sinks, for each outcome.
-use Rattle.std.specs.Prelude.{◌≡◌, ◌≢◌, ◌⊎◌, ℕ, ◌<◌, List, length, Option, Some, None, IfSome, Result, Ok, Err}
+use Rattle.std.specs.Prelude.{◌≡◌, ◌≢◌, ◌⊎◌, ℕ, ◌<◌, ◌≤◌, List, [], ◌∷◌, ◌++◌, length, Option, Some, None, IfSome, Result, Ok, Err}
 use Rattle.harm_io.specs.Shelves.{ShelfState, asked_too, FailsToFetch}
 use Rattle.harm_io.specs.Sinks.{SinkState, took, FailsToWrite, LacksMemory, Puts}
 use Rattle.harm_io.specs.declared.sink.PutFault.{PutFault}
@@ -17,10 +17,11 @@ use Rattle.harmscan_core.specs.declared.outcome.Outcome.TheVariants as outcome
 abbrev pub longest_file : ℕ
 longest_file = 4194304
 
--- the bytes that were given for a file, which are those that the shelf tells, are a study with this property
+-- the bytes that were given for a file, no more than a file may have and those that the shelf tells, are a study with this property
 pub record GivenStudy (told : Option (List ℕ)) (P : Study → Type 0) : Type 0 where
   pub bytes : List ℕ
   pub given : IfSome told (λ b. bytes ≡ b)
+  pub fits : length bytes ≤ longest_file
   pub study : Study
   pub is : IsStudy bytes study
   pub holds : P study
@@ -29,6 +30,7 @@ pub record GivenStudy (told : Option (List ℕ)) (P : Study → Type 0) : Type 0
 pub record GivenRefusal (told : Option (List ℕ)) (f : StudyFault) : Type 0 where
   pub bytes : List ℕ
   pub given : IfSome told (λ b. bytes ≡ b)
+  pub fits : length bytes ≤ longest_file
   pub no_memory : f ≢ fault.NoMemory
   pub is : Refused bytes f
 
@@ -97,6 +99,37 @@ pub record Runs (words : Option (List ℕ)) (shelf shelf' : ShelfState) (out out
   pub shows : status ≡ status_at answer
   pub happens : HappensFor words shelf shelf' out out' answer
   pub says : Says (line_at answer) err err'
+
+-- the names asked for are those before, and then the file that the words name or none; the files stay
+pub record AsksOnce (name : List ℕ) (before now : ShelfState) : Type 0 where
+  pub asked : (now.asked ≡ before.asked) ⊎ (now.asked ≡ before.asked ++ name ∷ [])
+  pub file : now.file ≡ before.file
+
+abbrev pub Asks : Option (List ℕ) → ShelfState → ShelfState → Type 0
+Asks None before now = now ≡ before
+Asks (Some name) before now = AsksOnce name before now
+
+-- a status that says that the whole report was written
+abbrev pub IsWritten : ℕ → Type 0
+IsWritten status = (status ≡ 0) ⊎ (status ≡ 3) ⊎ (status ≡ 4)
+
+-- a status with which nothing was put: words or a study refused, or a file that can't be read
+abbrev pub IsRefusal : ℕ → Type 0
+IsRefusal status = (status ≡ 1) ⊎ (status ≡ 2) ⊎ (status ≡ 5)
+
+-- the file that the words name was asked for, and its study's report is written whole, with this status; all that it claims holds
+abbrev pub WritesReport : Option (List ℕ) → ShelfState → ShelfState → SinkState → SinkState → ℕ → Type 0
+WritesReport None shelf shelf' out out' status = ⊥
+WritesReport (Some name) shelf shelf' out out' status = (shelf' ≡ asked_too shelf name) × GivenStudy (shelf.file name) (λ study. IsReported study status out out')
+
+-- a front of its study's report was taken
+abbrev pub StopsWithin : Option (List ℕ) → ShelfState → SinkState → SinkState → Type 0
+StopsWithin None shelf out out' = ⊥
+StopsWithin (Some name) shelf out out' = GivenStudy (shelf.file name) (λ study. FailsToWrite (report_text study) out out')
+
+-- refused with this outcome's line, or want of memory
+abbrev pub RefusesFor : Outcome → ℕ → SinkState → SinkState → SinkState → SinkState → Type 0
+RefusesFor o status out out' err err' = (status ≡ 7) ⊎ ((status ≡ 2) × (out' ≡ out) × Says (line_at o) err err')
 
 -- the whole report and its status, or want of memory
 abbrev pub IsComplete : ℕ → SinkState → SinkState → Study → Type 0

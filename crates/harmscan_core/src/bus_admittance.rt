@@ -6,7 +6,9 @@ ghost use Rattle.complex_interval.specs.Rect.{box_of};
 ghost use Rattle.harmscan_core.specs.BusAdmittance.{added, ground_box, summed, admittance_sum, zero_box};
 ghost use Rattle.harmscan_core.specs.Grounds.{ground_of};
 
-use admittance_box::{SeriesParameters, exact_zero, order_range, series_admittance, shunt_admittance};
+use admittance_box::{
+    SeriesParameters, exact_zero, order_range, series_admittance, shunt_admittance,
+};
 use band_subdivision::Reduction;
 use complex_interval::{Enclosure, Rect};
 

@@ -7,7 +7,6 @@ mod lines;
 mod outcome;
 mod perform;
 mod report;
-
 mod scan;
 mod values;
 mod words;

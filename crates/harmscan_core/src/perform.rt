@@ -4,9 +4,10 @@ ghost use Rattle.harm_io.specs.Causes.{Rose};
 ghost use Rattle.harm_io.specs.Memory.{names_of};
 ghost use Rattle.study_model.specs.declared.records.Study.{Study};
 ghost use Rattle.study_reader.specs.Built.{IsBuilt};
-ghost use Rattle.study_reader.specs.StudyOf.{IsStudy};
+ghost use Rattle.study_model.specs.declared.fault.StudyFault.{StudyFault};
+ghost use Rattle.study_reader.specs.StudyOf.{IsStudy, Refused};
 ghost use Rattle.harmscan_core.specs.Words.{reading};
-ghost use Rattle.harmscan_core.specs.Outcome.{ReadsStudy, Reports, Happens, HappensFor, Runs, IsComplete, longest_file};
+ghost use Rattle.harmscan_core.specs.Outcome.{ReadsStudy, Reports, Happens, HappensFor, Runs, IsComplete, IsWritten, WritesReport, Asks, IsRefusal, StopsWithin, RefusesFor, longest_file};
 
 use crate::lines::say;
 use crate::outcome::{Outcome, status};
@@ -92,15 +93,30 @@ pub fn run<F: Shelf, O: Sink, E: Sink>(
     // The whole of it: one outcome, with its status, its line and all that the shelf and the sinks saw.
     ensures runs { Runs (reading (names_of words.now)) (F.state shelf.old) (F.state shelf.new) (O.state out.old) (O.state out.new)
         (E.state err.old) (E.state err.new) result }
-    // What follows for single statuses.
-    ensures words { (result ≡ 1) ↔ (reading (names_of words.now) ≡ None) }
-    ensures read_fault { (F.state shelf.old).faults < (F.state shelf.new).faults → result ≡ 5 }
-    ensures write_fault { (O.state out.old).faults < (O.state out.new).faults → result ≡ 6 }
-    ensures write_memory { (O.state out.old).refused < (O.state out.new).refused → result ≡ 7 }
+    // At 0, 3 and 4 the whole report of the study was written, and all that it claims holds.
+    ensures report { IsWritten result → WritesReport (reading (names_of words.now)) (F.state shelf.old) (F.state shelf.new) (O.state out.old) (O.state out.new) result }
     // A study that is told and accepted is reported whole where no fault came, unless memory is wanting.
     ensures complete { (name bytes : List ℕ) (study : Study) → reading (names_of words.now) ≡ Some name → (F.state shelf.old).file name ≡ Some bytes
         → length bytes ≤ longest_file → IsStudy bytes study → (Rose (F.state shelf.old).faults (F.state shelf.new).faults → ⊥)
         → (Rose (O.state out.old).faults (O.state out.new).faults → ⊥) → IsComplete result (O.state out.old) (O.state out.new) study }
+
+    // No file is asked for but the one that the words name, and that once at most.
+    ensures asks { Asks (reading (names_of words.now)) (F.state shelf.old) (F.state shelf.new) }
+    ensures nothing_put { IsRefusal result → O.state out.new ≡ O.state out.old }
+    ensures front_put { result ≡ 6 → StopsWithin (reading (names_of words.now)) (F.state shelf.old) (O.state out.old) (O.state out.new) }
+
+    // The causes of single statuses.
+    ensures words { (result ≡ 1) ↔ (reading (names_of words.now) ≡ None) }
+    ensures read_fault { (F.state shelf.old).faults < (F.state shelf.new).faults → result ≡ 5 }
+    ensures write_fault { (O.state out.old).faults < (O.state out.new).faults → result ≡ 6 }
+    ensures write_memory { (O.state out.old).refused < (O.state out.new).refused → result ≡ 7 }
+    // A study that is told and refused is refused for its fault, and a file that is told to be too large is refused so, where the shelf had no fault, unless memory is wanting.
+    ensures refused { (name bytes : List ℕ) (fault : StudyFault) → reading (names_of words.now) ≡ Some name → (F.state shelf.old).file name ≡ Some bytes
+        → length bytes ≤ longest_file → Refused bytes fault → (Rose (F.state shelf.old).faults (F.state shelf.new).faults → ⊥)
+        → RefusesFor (Outcome.Refused fault) result (O.state out.old) (O.state out.new) (E.state err.old) (E.state err.new) }
+    ensures too_large { (name bytes : List ℕ) → reading (names_of words.now) ≡ Some name → (F.state shelf.old).file name ≡ Some bytes
+        → longest_file < length bytes → (Rose (F.state shelf.old).faults (F.state shelf.new).faults → ⊥)
+        → RefusesFor Outcome.TooLarge result (O.state out.old) (O.state out.new) (E.state err.old) (E.state err.new) }
 {
     let outcome = perform(alloc, words, shelf, out);
     say(&outcome, err);

@@ -13,7 +13,9 @@ use crate::counts::{Counts, count, status};
 use crate::scan::ScanWalk;
 use crate::values::micro;
 use harm_io::{PutFault, Sink};
-use scan_report::{BoxRow, BoxWord, Kind, LineBuf, NetWord, Row, box_row, end_row, scan_row, summary_row};
+use scan_report::{
+    BoxRow, BoxWord, Kind, LineBuf, NetWord, Row, box_row, end_row, scan_row, summary_row,
+};
 use study_model::{ScanItem, Sequence, Study};
 
 /// Puts a line.

@@ -18,7 +18,10 @@ use study_model::{ScanItem, Study};
 pub type ScanWalk = Walk<IntervalTest<BusAdmittance<Span<40>>>>;
 
 /// The branches of the study's sources, after those that are there.
-fn push_sources<E: Enclosure>(study: &Study, branches: &mut Vec<GroundBranch<E>>) -> Result<(), AllocError>
+fn push_sources<E: Enclosure>(
+    study: &Study,
+    branches: &mut Vec<GroundBranch<E>>,
+) -> Result<(), AllocError>
     requires { IsBuilt study.now }
     ensures { OnOk result (map (ground_of E.ends) branches.new.items ≡ map (ground_of E.ends) branches.old.items ++ map (λ s. ground_ends E.SCALE (source_law study.now s)) study.now.sources) }
 {
@@ -29,7 +32,10 @@ fn push_sources<E: Enclosure>(study: &Study, branches: &mut Vec<GroundBranch<E>>
 }
 
 /// The branches of the study's banks, after those that are there.
-fn push_banks<E: Enclosure>(study: &Study, branches: &mut Vec<GroundBranch<E>>) -> Result<(), AllocError>
+fn push_banks<E: Enclosure>(
+    study: &Study,
+    branches: &mut Vec<GroundBranch<E>>,
+) -> Result<(), AllocError>
     requires { IsBuilt study.now }
     ensures { OnOk result (map (ground_of E.ends) branches.new.items ≡ map (ground_of E.ends) branches.old.items ++ map (λ b. ground_ends E.SCALE (bank_law study.now b)) study.now.banks) }
 {
@@ -40,7 +46,10 @@ fn push_banks<E: Enclosure>(study: &Study, branches: &mut Vec<GroundBranch<E>>) 
 }
 
 /// The branches at the study's one bus.
-fn bus_admittance<E: Enclosure>(alloc: Global, study: &Study) -> Result<BusAdmittance<E>, AllocError>
+fn bus_admittance<E: Enclosure>(
+    alloc: Global,
+    study: &Study,
+) -> Result<BusAdmittance<E>, AllocError>
     requires { IsBuilt study.now }
     ensures { IfOk result (λ b. map (ground_of E.ends) b.branches.items ≡ grounds_of E.SCALE (network_of study.now).branches) }
 {

@@ -10,9 +10,11 @@ pub record Printed : Type 0 where
   pub name : List ℕ
   pub place : Option Place
 
+-- what is printed of a fault with a number
 abbrev pub row : ℕ → List ℕ → Option Place → Printed
 row number name place = record { number = Some number; name = name; place = place }
 
+-- each fault's number, name and place, in the order of the numbers
 abbrev pub printed_of : StudyFault → Printed
 printed_of NotToml = row 1 (codes "NotToml") None
 printed_of VersionUnknown = row 2 (codes "VersionUnknown") None
@@ -34,11 +36,14 @@ printed_of (NotBuilt place) = row 17 (codes "NotBuilt") (Some place)
 printed_of (UnknownElement place) = row 18 (codes "UnknownElement") (Some place)
 printed_of NoMemory = record { number = None; name = codes "NoMemory"; place = None }
 
+-- the number
 abbrev pub fault_number : StudyFault → Option ℕ
 fault_number fault = (printed_of fault).number
 
+-- the name
 abbrev pub fault_name : StudyFault → List ℕ
 fault_name fault = (printed_of fault).name
 
+-- the place
 abbrev pub fault_place : StudyFault → Option Place
 fault_place fault = (printed_of fault).place

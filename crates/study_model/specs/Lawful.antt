@@ -30,10 +30,12 @@ IsBus buses bus = bus < length buses
 abbrev pub HaveEqualKv : List Bus → ℕ → ℕ → Type 0
 HaveEqualKv buses from to = option_map (λ bus. bus.kv) (slice_get buses from) ≡ option_map (λ bus. bus.kv) (slice_get buses to)
 
+-- a bus: its nominal voltage in kV
 pub record IsLawfulBus (bus : Bus) : Type 0 where
   pub name : IsName bus.name
   pub kv : IsIn BUS_KV bus.kv
 
+-- a source: impedances in ohms, not both parts 0
 pub record IsLawfulSource (buses : List Bus) (source : Source) : Type 0 where
   pub name : IsName source.name
   pub bus : IsBus buses source.bus
@@ -43,6 +45,7 @@ pub record IsLawfulSource (buses : List Bus) (source : Source) : Type 0 where
   pub skin_k : IsIn SKIN_K source.skin_k
   pub skin_m : IsIn SKIN_M source.skin_m
 
+-- a line: two buses of one voltage; impedances in ohms, susceptances in microsiemens
 pub record IsLawfulLine (model : StudyModel) (buses : List Bus) (line : Line) : Type 0 where
   pub name : IsName line.name
   pub from : IsBus buses line.from
@@ -57,6 +60,7 @@ pub record IsLawfulLine (model : StudyModel) (buses : List Bus) (line : Line) : 
   pub skin_k : IsIn SKIN_K line.skin_k
   pub skin_m : IsIn SKIN_M line.skin_m
 
+-- a transformer: two buses; its own MVA, percents on it, and neutrals in ohms
 pub record IsLawfulTransformer (buses : List Bus) (transformer : Transformer) : Type 0 where
   pub name : IsName transformer.name
   pub from : IsBus buses transformer.from
@@ -70,6 +74,7 @@ pub record IsLawfulTransformer (buses : List Bus) (transformer : Transformer) : 
   pub skin_k : IsIn SKIN_K transformer.skin_k
   pub skin_m : IsIn SKIN_M transformer.skin_m
 
+-- a load: its model tells whether it has a power or an impedance
 pub record IsLawfulLoad (model : StudyModel) (buses : List Bus) (load : Load) : Type 0 where
   pub name : IsName load.name
   pub bus : IsBus buses load.bus
@@ -77,12 +82,14 @@ pub record IsLawfulLoad (model : StudyModel) (buses : List Bus) (load : Load) : 
   pub r_x : IsImpedance load.model load.r load.x
   pub phase : IsElementPhase model load.phase
 
+-- a bank: its rating in MVAr
 pub record IsLawfulBank (model : StudyModel) (buses : List Bus) (bank : Bank) : Type 0 where
   pub name : IsName bank.name
   pub bus : IsBus buses bank.bus
   pub q : IsIn ABOVE_ZERO bank.q
   pub phase : IsElementPhase model bank.phase
 
+-- a filter: its rating in MVAr, the order it is tuned to and its quality
 pub record IsLawfulFilter (model : StudyModel) (buses : List Bus) (filter : Filter) : Type 0 where
   pub name : IsName filter.name
   pub bus : IsBus buses filter.bus
@@ -91,6 +98,7 @@ pub record IsLawfulFilter (model : StudyModel) (buses : List Bus) (filter : Filt
   pub quality : IsIn QUALITY filter.quality
   pub phase : IsElementPhase model filter.phase
 
+-- a scan: its network, a band that is not too many finest widths wide, and a threshold in ohms
 pub record IsLawfulScan (model : StudyModel) (buses : List Bus) (scan : ScanItem) : Type 0 where
   pub name : IsName scan.name × (scan.name ≢ codes "limits")
   pub bus : IsBus buses scan.bus
@@ -101,6 +109,7 @@ pub record IsLawfulScan (model : StudyModel) (buses : List Bus) (scan : ScanItem
   pub finest : IsIn FINEST scan.finest × ((scan.to -ℤ scan.from) ≤ℤ (pos MAX_WIDTHS *ℤ scan.finest))
   pub locate : IsIn LOCATE scan.locate × (scan.finest ≤ℤ scan.locate)
 
+-- a point of common coupling: an element that touches its bus, and two currents in amperes
 pub record IsLawfulPcc (study : Study) (point : Pcc) : Type 0 where
   pub name : IsName point.name
   pub bus : IsBus study.buses point.bus

@@ -14,12 +14,15 @@ pub record IsPadded (len : ℕ) (bytes : List ℕ) : Type 0 where
   pub letters : IsTrue (list_all is_name_byte (take len bytes))
   pub zeros : drop len bytes ≡ replicate (32 - len) 0
 
+-- how a name lies: its bytes, and zeros after them
 abbrev pub inverse_of : List ℕ → Inside
 inverse_of text = record { len = length text; bytes = text ++ replicate (32 - length text) 0 }
 
+-- equal lengths and bytes are equal names
 inside_is : {n n' : ℕ} {bs bs' : List ℕ} → n ≡ n' → bs ≡ bs' → ◌≡◌ {A = Inside} (record { len = n; bytes = bs }) (record { len = n'; bytes = bs' })
 inside_is p q = cc
 
+-- a name lies as its bytes say
 pub inverse_is : (a : Inside) → IsPadded a.len a.bytes → inverse_of (take a.len a.bytes) ≡ a
 inverse_is a h =
     let long : a.len ≤ length a.bytes = omega (arith, h.whole, h.fits) in

@@ -5,6 +5,7 @@ use Rattle.study_model.specs.declared.fault.Section.TheVariants as section
 use Rattle.study_model.specs.declared.fault.Key.{Key}
 use Rattle.study_model.specs.declared.fault.Key.TheVariants as key
 
+-- the word of each section, of the whole file and of the networks
 abbrev pub section_text : Section → List ℕ
 section_text section.Top = codes "top"
 section_text section.Network = codes "network"
@@ -19,6 +20,7 @@ section_text section.Filter = codes "filter"
 section_text section.Scan = codes "scan"
 section_text section.Pcc = codes "pcc"
 
+-- each key as it is written, and a dash where there is none
 abbrev pub key_text : Key → List ℕ
 key_text key.Nothing = codes "-"
 key_text key.Version = codes "version"

@@ -9,7 +9,7 @@ use std::marker::Model;
 pub const MAX_NAME_LEN: usize = 32;
 
 /// A name: its first `len` bytes, each a letter, a digit or one of `_ . -`, and zeros after them.
-#[derive(Clone, Copy)]
+#[derive(Clone, Copy, Debug, PartialEq, Eq)]
 pub struct Name {
     pub len: u8,
     pub bytes: [u8; MAX_NAME_LEN],

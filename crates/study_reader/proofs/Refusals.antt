@@ -1,5 +1,5 @@
 -- Why bytes are refused.
-use Rattle.std.proofs.Common.{◌≡◌, ◌≢◌, ℕ, List, Some, None, ap, sym, ◌∙◌, subst}
+use Rattle.std.proofs.Common.{◌≡◌, ◌≢◌, ℕ, List, Some, None, ap, sym, ◌∙◌, subst, refl}
 use Rattle.toml.specs.Data.{Members, table}
 use Rattle.study_model.specs.declared.fault.StudyFault.{StudyFault}
 use Rattle.study_model.specs.declared.fault.StudyFault.TheVariants.{NoMemory, NotBuilt}
@@ -28,3 +28,10 @@ not_refused bytes s _ i (not_built ms fault has e) =
     let same : ms ≡ i.ms = one_table bytes ms i.ms has i.given in
     let sound : study_fault i.ms ≡ None = i.sound in
     let moved : study_fault i.ms ≡ Some fault = subst (λ (m : Members). study_fault m ≡ Some fault) same e in cc
+
+-- bytes are refused for one fault
+pub same_refusal : (bytes : List ℕ) (f g : StudyFault) → Refused bytes f → Refused bytes g → f ≡ g
+same_refusal bytes _ _ (no_table none) (no_table other) = refl
+same_refusal bytes _ _ (no_table none) (not_built ms fault has e) = absurd (none ms has)
+same_refusal bytes _ _ (not_built ms fault has e) (no_table none) = absurd (none ms has)
+same_refusal bytes _ _ (not_built ms fault has e) (not_built ms' fault' has' e') = refl

@@ -327,7 +327,8 @@ fn not_built(fault: StudyFault) -> StudyFault
     }
 }
 
-/// Reads a study from the bytes of a TOML document. Orders and decimals are in millionths of their unit.
+/// The study of the bytes of a TOML document, in this project's own format (docs/study.md). A bus is its number
+/// from 0, and an absent key has its default.
 ///
 /// # Errors
 ///

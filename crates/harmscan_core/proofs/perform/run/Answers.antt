@@ -1,7 +1,8 @@
 use Rattle.std.proofs.Common.{◌∙◌, sym, ℕ, subst}
-use Rattle.harmscan_core.specs.Outcome.{IsComplete}
-use Rattle.harmscan_core.proofs.Complete.{complete_for}
-use Rattle.harmscan_core.proofs.Causes.{read_rose, write_rose, memory_rose, words_refused, words_none}
+use Rattle.harmscan_core.specs.Outcome.{IsComplete, IsRefusal, RefusesFor}
+use Rattle.harmscan_core.specs.declared.outcome.Outcome.TheVariants.{Refused, TooLarge}
+use Rattle.harmscan_core.proofs.Complete.{complete_for, refused_for, too_large_for}
+use Rattle.harmscan_core.proofs.Causes.{read_rose, write_rose, memory_rose, asks_once, writes_report_at, nothing_put, stops_within, words_refused, words_none}
 use Rattle.harmscan_core.proofs.perform.run.Goals as goal
 
 pub returns-clause-read_fault : goal.returns-clause-read_fault
@@ -15,6 +16,28 @@ returns-clause-write_memory g c = λ r. c.status.ensures ∙ memory_rose _ _ _ _
 
 pub returns-clause-words : goal.returns-clause-words
 returns-clause-words g c = (λ e. words_refused _ _ _ _ _ _ c.perform-outcome.ensures (sym c.status.ensures ∙ e), λ e. c.status.ensures ∙ words_none _ _ _ _ _ _ c.perform-outcome.ensures e)
+
+pub returns-clause-report : goal.returns-clause-report
+returns-clause-report g c = λ p. writes_report_at _ _ _ _ _ _ _ c.perform-outcome.ensures c.status.ensures p
+
+pub returns-clause-asks : goal.returns-clause-asks
+returns-clause-asks g c = asks_once _ _ _ _ _ _ c.perform-outcome.ensures
+
+pub returns-clause-nothing_put : goal.returns-clause-nothing_put
+returns-clause-nothing_put g c = λ p. nothing_put _ _ _ _ _ _ c.perform-outcome.ensures (subst IsRefusal c.status.ensures p)
+
+pub returns-clause-front_put : goal.returns-clause-front_put
+returns-clause-front_put g c = λ e. stops_within _ _ _ _ _ _ c.perform-outcome.ensures (sym c.status.ensures ∙ e)
+
+pub returns-clause-refused : goal.returns-clause-refused
+returns-clause-refused g c = λ name bytes fault w told small is read.
+    subst (λ (s : ℕ). RefusesFor (Refused fault) s (g.O.Sink.state c.args.out.now) (g.O.Sink.state c.perform-outcome.new.out) (g.E.Sink.state c.args.err.now) (g.E.Sink.state c.say.new.err)) (sym c.status.ensures)
+    (refused_for _ name bytes fault _ _ _ _ _ _ _ c.perform-outcome.ensures c.say.ensures w told small is read)
+
+pub returns-clause-too_large : goal.returns-clause-too_large
+returns-clause-too_large g c = λ name bytes w told large read.
+    subst (λ (s : ℕ). RefusesFor TooLarge s (g.O.Sink.state c.args.out.now) (g.O.Sink.state c.perform-outcome.new.out) (g.E.Sink.state c.args.err.now) (g.E.Sink.state c.say.new.err)) (sym c.status.ensures)
+    (too_large_for _ name bytes _ _ _ _ _ _ _ c.perform-outcome.ensures c.say.ensures w told large read)
 
 pub returns-clause-complete : goal.returns-clause-complete
 returns-clause-complete g c = λ name bytes study w told small is read write.
