@@ -1,10 +1,17 @@
-// A worked case of the definition of a lawful study.
+// Worked cases of the definition of a lawful study.
 ghost use Rattle.std.specs.Prelude.{pos};
 ghost use Rattle.study_model.specs.Lawful.{IsLawful};
-ghost use Rattle.study_model.specs.Worked.{worked_study};
+ghost use Rattle.study_model.specs.Worked.{worked_study, worked_plant};
 
 /// A study of one bus, one source and one scan is lawful, and is not where its band ends at the order at which it begins.
 pub fn worked_study_is_lawful()
     ensures lawful { IsLawful (worked_study (pos 10_000_000)) }
     ensures no_band { ¬ (IsLawful (worked_study (pos 1_000_000))) }
+{}
+
+/// A plant with entries in every section is lawful with a point at the transformer, and not with one at the source or past the last element.
+pub fn worked_plant_is_lawful()
+    ensures lawful { IsLawful (worked_plant 3) }
+    ensures elsewhere { ¬ (IsLawful (worked_plant 1)) }
+    ensures absent { ¬ (IsLawful (worked_plant 8)) }
 {}

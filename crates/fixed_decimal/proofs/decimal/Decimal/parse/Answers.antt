@@ -1,6 +1,5 @@
-use Rattle.std.proofs.Common.{rules, Err}
+use Rattle.std.proofs.Common.{rules}
 use Rattle.fixed_decimal.specs.Parsed.{decimal_of}
-use Rattle.fixed_decimal.specs.declared.fault.DecimalFault.TheVariants.{Empty}
 use Rattle.fixed_decimal.proofs.Answers.{answer_is}
 use Rattle.fixed_decimal.proofs.decimal.Decimal.parse.Goals as goal
 
