@@ -4,3 +4,8 @@ pub mod HeldSolution
 pub mod Stated
 pub mod Rectangles
 pub mod Worked
+pub mod Sweeps
+pub mod Layouts
+pub mod Left
+pub mod Places
+pub mod Answers

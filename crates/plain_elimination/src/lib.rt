@@ -1,8 +1,15 @@
 // Reduction and solving of complex intervals: definitions in specs/, and what they say of exact numbers.
 #![tactic(auto)]
 
+mod cells;
 mod failure;
 mod laws;
+mod matrix;
+mod reduction;
+mod row;
+mod rows;
 
 pub use failure::Failure;
 pub use laws::{reduction_holds, solution_holds, worked_reductions};
+pub use matrix::Matrix;
+pub use reduction::reduce_to_last;
