@@ -55,14 +55,14 @@ module _ (B : Boxes) where
       ≡ after (from_column (c + 1) (rows_of i w (map h cells))) (later_rows B pivot (map h first) (from_column c (rows_of (n - i) w (drop (i * w) (map h cells)))))
 
   -- the rows that are left, the next one apart
-  next_row : (n w c i k : ℕ) (xs : List Box) → i < n → w ≡ c + suc k
+  pub next_row : (n w c i k : ℕ) (xs : List Box) → i < n → w ≡ c + suc k
       → from_column c (rows_of (n - i) w (drop (i * w) xs)) ≡ take (suc k) (drop (i * w + c) xs) ∷ from_column c (rows_of (n - (i + 1)) w (drop (i * w + w) xs))
   next_row n w c i k xs l e =
       let m : n - i ≡ suc (n - (i + 1)) = omega arith in
       rw (m, drop-drop w (i * w) xs) (ap (λ row. row ∷ from_column c (rows_of (n - (i + 1)) w (drop (i * w + w) xs))) (part_of_row (i * w) c (suc k) w xs e))
 
   -- the rows that are done, with this one
-  done_row : (w c i k : ℕ) (xs zs : List Box) → w ≡ c + suc k → take (i * w + c + 1) zs ≡ take (i * w + c + 1) xs
+  pub done_row : (w c i k : ℕ) (xs zs : List Box) → w ≡ c + suc k → take (i * w + c + 1) zs ≡ take (i * w + c + 1) xs
       → from_column (c + 1) (rows_of (i + 1) w zs) ≡ from_column (c + 1) (rows_of i w xs) ++ take k (drop (i * w + c + 1) zs) ∷ []
   done_row w c i k xs zs e before =
       let front : take (i * w) zs ≡ take (i * w) xs = sym (take-take (i * w) (i * w + c + 1) zs (omega arith)) ∙ ap (take (i * w)) before ∙ take-take (i * w) (i * w + c + 1) xs (omega arith) in

@@ -1,18 +1,15 @@
 -- The rows that are left of a square list of rows, step by step.
-use Rattle.std.proofs.Common.{◌≡◌, ℕ, zero, suc, ◌+◌, ◌-◌, ◌*◌, ◌<◌, List, [], ◌∷◌, ◌++◌, length, get_or, take, drop, map, Result, Ok, Err, refl, sym, ap, ap₂, ◌∙◌, add-one, arith}
+use Rattle.std.proofs.Common.{◌≡◌, ℕ, suc, ◌+◌, ◌-◌, ◌*◌, ◌<◌, List, [], ◌∷◌, ◌++◌, length, get_or, take, drop, map, Result, Ok, Err, refl, sym, ap, ap₂, ◌∙◌, add-one, arith}
 use Rattle.std.proofs.Math.Nat.{add-mul, one-mul, sub-zero}
 use Rattle.std.proofs.lemmas.List.{length-drop, drop-map, take-map, drop-take, drop-drop, drop_at, length-map, length-take-le, map-append}
 use Rattle.exact_algebra.proofs.Differences.{products}
 use Rattle.plain_elimination.specs.Elimination.{Boxes, bind, or_fail, split_pivot, later_rows, reduce_step, reduce_from, reduce}
-use Rattle.plain_elimination.specs.Layout.{rows_of, from_column, rows_left}
+use Rattle.plain_elimination.specs.Layout.{rows_of, from_column, rows_left, pivot_row}
 use Rattle.plain_elimination.specs.declared.failure.Failure.{Failure}
 use Rattle.plain_elimination.specs.declared.failure.Failure.TheVariants.{OutOfRange}
 use Rattle.plain_elimination.proofs.Layouts.{part_of_row}
+use Rattle.plain_elimination.proofs.Lines.{count_rows}
 use Rattle.plain_elimination.proofs.Sweeps.{read}
-
-pub count_rows : {X : Type 0} (n w : ℕ) (xs : List X) → length (rows_of n w xs) ≡ n
-count_rows zero w xs = refl
-count_rows (suc n) w xs = ap suc (count_rows n w (drop w xs))
 
 -- from the first column on nothing is left out
 all_columns : {X : Type 0} (rows : List (List X)) → from_column 0 rows ≡ rows
@@ -23,10 +20,6 @@ pub left_whole : {X : Type 0} (size : ℕ) (xs : List X) → rows_left size 0 xs
 left_whole size xs =
     let e : 0 * size ≡ 0 = omega (arith, products) in
     rw (e, sub-zero) (all_columns (rows_of size size xs))
-
--- the pivot's row, from the pivot on
-abbrev pub pivot_row : {X : Type 0} → ℕ → ℕ → List X → List X
-pivot_row size k xs = drop (k * size + k) (take ((k + 1) * size) xs)
 
 -- the pivot's row apart
 pub left_next : {X : Type 0} (size k : ℕ) (xs : List X) → k < size
@@ -54,6 +47,22 @@ first_size c size cells done first l square ed ef =
     let lf : length first ≡ length done - (c * size + c) = ap length ef ∙ length-drop (c * size + c) done in
     omega arith
 
+-- the rows behind the pivot's row, as a step left them
+pub left_behind : {R X : Type 0} (h : R → X) (c size : ℕ) (cells done new : List R) → c < size → length cells ≡ size * size → done ≡ take ((c + 1) * size) cells
+    → rows_left size (c + 1) (map h (done ++ new)) ≡ from_column (c + 1) (rows_of (size - 1 - c) size (map h new))
+left_behind h c size cells done new l square ed =
+    let fits = cells_behind c size l in
+    let m : size - (c + 1) ≡ size - 1 - c = omega arith in
+    let ld : length (map h done) ≡ (c + 1) * size = length-map done h ∙ ap length ed ∙ length-take-le ((c + 1) * size) cells (omega arith) in
+    ap₂ (λ n xs. from_column (c + 1) (rows_of n size xs)) m (ap (drop ((c + 1) * size)) (map-append h done new) ∙ drop_at (map h done) (map h new) ((c + 1) * size) ld)
+
+pub first_is : {R X : Type 0} (h : R → X) (c size : ℕ) (cells done first : List R) → done ≡ take ((c + 1) * size) cells → first ≡ drop (c * size + c) done → map h first ≡ pivot_row size c (map h cells)
+first_is h c size cells done first ed ef =
+    ap (map h) (ef ∙ ap (drop (c * size + c)) ed) ∙ sym (drop-map h (c * size + c) (take ((c + 1) * size) cells)) ∙ ap (drop (c * size + c)) (sym (take-map h ((c + 1) * size) cells))
+
+pub later_is : {R X : Type 0} (h : R → X) (c size : ℕ) (cells later : List R) → later ≡ drop ((c + 1) * size) cells → map h later ≡ drop ((c + 1) * size) (map h cells)
+later_is h c size cells later el = ap (map h) el ∙ sym (drop-map h ((c + 1) * size) cells)
+
 module _ (B : Boxes) where
   open B use {Box}
 
@@ -63,16 +72,8 @@ module _ (B : Boxes) where
       ≡ bind (split_pivot B (c + 1) (map h first)) (λ split. or_fail (OutOfRange (c + 1)) (later_rows B split.0 split.1 (from_column c (rows_of (size - 1 - c) w (map h later)))))
       → bind result (λ _. Ok (rows_left size (c + 1) (map h (done ++ new)))) ≡ reduce_step B (c + 1) (rows_left size c (map h cells))
   column_done h result c size w cells done later new first l square ew ed el ef k =
-      let fits = cells_behind c size l in
-      let m : size - (c + 1) ≡ size - 1 - c = omega arith in
-      let ld : length (map h done) ≡ (c + 1) * size = length-map done h ∙ ap length ed ∙ length-take-le ((c + 1) * size) cells (omega arith) in
-      let left : rows_left size (c + 1) (map h (done ++ new)) ≡ from_column (c + 1) (rows_of (size - 1 - c) size (map h new)) =
-      ap₂ (λ n xs. from_column (c + 1) (rows_of n size xs)) m (ap (drop ((c + 1) * size)) (map-append h done new) ∙ drop_at (map h done) (map h new) ((c + 1) * size) ld) in
-      let row : map h first ≡ pivot_row size c (map h cells) =
-      ap (map h) (ef ∙ ap (drop (c * size + c)) ed) ∙ sym (drop-map h (c * size + c) (take ((c + 1) * size) cells)) ∙ ap (drop (c * size + c)) (sym (take-map h ((c + 1) * size) cells)) in
-      let rest : map h later ≡ drop ((c + 1) * size) (map h cells) = ap (map h) el ∙ sym (drop-map h ((c + 1) * size) cells) in
-      ap (λ rows. bind result (λ _. Ok rows)) left
-      ∙ rw (ew, row, rest) at k
+      ap (λ rows. bind result (λ _. Ok rows)) (left_behind h c size cells done new l square ed)
+      ∙ rw (ew, first_is h c size cells done first ed ef, later_is h c size cells later el) at k
       ∙ ap (reduce_step B (c + 1)) (sym (left_next size c (map h cells) l))
 
   -- the reduction of the whole, from what is left after c steps

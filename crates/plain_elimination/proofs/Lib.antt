@@ -9,3 +9,6 @@ pub mod Layouts
 pub mod Left
 pub mod Places
 pub mod Answers
+pub mod Rests
+pub mod Lines
+pub mod Systems

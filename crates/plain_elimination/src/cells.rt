@@ -1,5 +1,5 @@
 // Where the entries of a matrix lie in its cells, and cells of zeros.
-ghost use Rattle.std.specs.Prelude.{◌≡◌, ◌+◌, ◌*◌, ◌<◌, ◌≤◌, IfOk, map, replicate};
+ghost use Rattle.std.specs.Prelude.{◌≡◌, ◌+◌, ◌*◌, ◌<◌, ◌≤◌, IfOk, length, map, take, drop, replicate, slice_set};
 ghost use Rattle.complex_interval.specs.Rect.{box_of};
 ghost use Rattle.plain_elimination.specs.Matrix.{nought_box};
 
@@ -35,4 +35,28 @@ pub fn nought_cells<E: Enclosure>(alloc: Global, count: usize) -> Result<Vec<Rec
     let mut cells = Vec::new(alloc);
     cells.resize(count, Rect { re, im: re })?;
     Ok(cells)
+}
+
+/// The cells from this one on.
+pub fn cells_from<E: Enclosure>(cells: &[Rect<E>], start: usize) -> &[Rect<E>]
+    requires { start ≤ length cells.now }
+    ensures { result.now ≡ drop start cells.now }
+{
+    &cells[start..]
+}
+
+/// The cells before this one.
+pub fn cells_up_to<E: Enclosure>(cells: &[Rect<E>], end: usize) -> &[Rect<E>]
+    requires { end ≤ length cells.now }
+    ensures { result.now ≡ take end cells.now }
+{
+    &cells[..end]
+}
+
+/// Writes this cell.
+pub fn set_cell<E: Enclosure>(cells: &mut [Rect<E>], at: usize, x: Rect<E>)
+    requires { at < length cells.old }
+    ensures { cells.new ≡ slice_set cells.old at x }
+{
+    cells[at] = x;
 }

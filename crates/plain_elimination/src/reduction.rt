@@ -7,19 +7,12 @@ ghost use Rattle.plain_elimination.specs.Layout.{rows_of, from_column, rows_left
 ghost use Rattle.plain_elimination.specs.Matrix.{HoldsComplements};
 ghost use Rattle.plain_elimination.specs.Rectangles.{boxes, reduce_boxes};
 
+use crate::cells::cells_from;
 use crate::failure::Failure;
 use crate::matrix::Matrix;
 use crate::row::holds_zero;
 use crate::rows::eliminate_rows;
 use complex_interval::{Enclosure, Rect};
-
-// The cells from this one on.
-fn cells_from<E: Enclosure>(cells: &[Rect<E>], start: usize) -> &[Rect<E>]
-    requires { start ≤ length cells.now }
-    ensures { result.now ≡ drop start cells.now }
-{
-    &cells[start..]
-}
 
 // One step, by the pivot's row from the pivot on.
 fn reduce_by<E: Enclosure>(

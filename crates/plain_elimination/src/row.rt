@@ -3,7 +3,7 @@ ghost use Rattle.std.specs.Prelude.{◌≡◌, ◌∷◌, length, map};
 ghost use Rattle.std.specs.Option.{option_map};
 ghost use Rattle.complex_interval.specs.Ends.{zero_between};
 ghost use Rattle.complex_interval.specs.Rect.{box_of};
-ghost use Rattle.plain_elimination.specs.Elimination.{sweep, later_row};
+ghost use Rattle.plain_elimination.specs.Elimination.{sweep, later_row, later_line, take_away};
 ghost use Rattle.plain_elimination.specs.Rectangles.{boxes, is_nought};
 
 use complex_interval::{Enclosure, Rect};
@@ -74,4 +74,41 @@ pub fn eliminate_row<E: Enclosure>(
     }
     let f = entry.div(pivot)?;
     sweep(f, first, row)
+}
+
+/// The same with a right side: `first_right` is the pivot row's, `right` the later row's, and the result is what becomes of it.
+pub fn eliminate_line<E: Enclosure>(
+    pivot: Rect<E>,
+    first: &[Rect<E>],
+    first_right: Rect<E>,
+    entry: Rect<E>,
+    row: &mut [Rect<E>],
+    right: Rect<E>,
+) -> Option<Rect<E>>
+    requires { length first.now ≡ length row.old }
+    ensures { option_map (λ b. record { left = map (box_of E.ends) row.new; right = box_of E.ends b }) result
+        ≡ later_line (boxes E.SCALE) (box_of E.ends pivot) (map (box_of E.ends) first.now) (box_of E.ends first_right)
+        (box_of E.ends entry ∷ map (box_of E.ends) row.old) (box_of E.ends right) }
+{
+    if is_zero(entry) {
+        return Some(right);
+    }
+    let f = entry.div(pivot)?;
+    sweep(f, first, row)?;
+    let part = f.mul(first_right)?;
+    right.sub(part)
+}
+
+/// What is left of a right side: b less each a x, in order.
+pub fn take_away<E: Enclosure>(b: Rect<E>, row: &[Rect<E>], xs: &[Rect<E>]) -> Option<Rect<E>>
+    requires { length row.now ≡ length xs.now }
+    ensures { option_map (box_of E.ends) result
+        ≡ take_away (boxes E.SCALE) (box_of E.ends b) (map (box_of E.ends) row.now) (map (box_of E.ends) xs.now) }
+{
+    let mut rest = b;
+    for i in 0..row.len() {
+        let part = row[i].mul(xs[i])?;
+        rest = rest.sub(part)?;
+    }
+    Some(rest)
 }
