@@ -4,3 +4,11 @@ pub mod HeldSolution
 pub mod Stated
 pub mod Rectangles
 pub mod Worked
+pub mod Sweeps
+pub mod Layouts
+pub mod Left
+pub mod Places
+pub mod Answers
+pub mod Rests
+pub mod Lines
+pub mod Systems

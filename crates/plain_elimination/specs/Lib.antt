@@ -1,3 +1,5 @@
 pub mod Elimination
 pub mod Rectangles
+pub mod Layout
+pub mod Matrix
 pub mod Worked

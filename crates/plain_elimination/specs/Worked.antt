@@ -1,6 +1,7 @@
 -- Reduction and solving at scale 40 of boxes that were worked by hand, for the definitions to be compared with.
 use Rattle.std.specs.Prelude.{◌≡◌, ℤ, pos, negsuc, [], ◌∷◌, Ok, Err}
 use Rattle.complex_interval.specs.Boxes.{Box}
+use Rattle.plain_elimination.specs.Matrix.{nought_box}
 use Rattle.plain_elimination.specs.Rectangles.{reduce_boxes, solve_boxes}
 use Rattle.plain_elimination.specs.declared.failure.Failure.TheVariants.{PivotHoldsZero, OutOfRange}
 
@@ -8,10 +9,7 @@ use Rattle.plain_elimination.specs.declared.failure.Failure.TheVariants.{PivotHo
 abbrev pub raw_box : ℤ → Box
 raw_box x = record { re = record { low = x; high = x }; im = record { low = pos 0; high = pos 0 } }
 
--- 0, 1 and 2
-abbrev pub nought_box : Box
-nought_box = raw_box (pos 0)
-
+-- 1 and 2
 abbrev pub one_box : Box
 one_box = raw_box (pos 1099511627776)
 

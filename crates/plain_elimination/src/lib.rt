@@ -1,8 +1,22 @@
 // Reduction and solving of complex intervals: definitions in specs/, and what they say of exact numbers.
 #![tactic(auto)]
 
+mod cells;
+mod column;
 mod failure;
 mod laws;
+mod matrix;
+mod reduction;
+mod row;
+mod rows;
+mod solution;
 
+pub use column::Column;
 pub use failure::Failure;
 pub use laws::{reduction_holds, solution_holds, worked_reductions};
+pub use matrix::Matrix;
+pub use reduction::reduce_to_last;
+pub use solution::solve;
+
+#[cfg(test)]
+mod tests;

@@ -1,0 +1,68 @@
+// A square matrix of complex intervals.
+ghost use Rattle.std.specs.Prelude.{◌≡◌, ◌+◌, ◌*◌, ◌<◌, ◌≤◌, Some, IfOk, length, replicate};
+ghost use Rattle.complex_interval.specs.Rect.{box_of};
+ghost use Rattle.plain_elimination.specs.Matrix.{Square, entry, set_entry, nought_box};
+
+use crate::cells::{nought_cells, place_of};
+use complex_interval::{Enclosure, Rect};
+use std::alloc::{AllocError, Global};
+use std::marker::Model;
+
+/// A square matrix, which contracts see as its size and its list of rows of boxes.
+#[derive(Drop)]
+pub struct Matrix<E: Enclosure> {
+    pub(crate) size: u32,
+    pub(crate) cells: Vec<Rect<E>>,
+}
+
+impl<E: Enclosure> Model for Matrix<E> {
+    ghost use Rattle.std.specs.Prelude.{◌≡◌, ◌*◌, ◌≤◌, length, map};
+    ghost use Rattle.complex_interval.specs.Rect.{box_of};
+    ghost use Rattle.plain_elimination.specs.Layout.{rows_of};
+    ghost use Rattle.plain_elimination.specs.Matrix.{Square};
+
+    ghost Value = { Square };
+
+    ghost view = { λ m. record { size = m.size; rows = rows_of m.size m.size (map (box_of E.ends) m.cells.items) } };
+
+    ghost invariant = { λ m. (length m.cells.items ≡ m.size * m.size) × (m.size ≤ 4096) };
+}
+
+impl<E: Enclosure> Matrix<E> {
+    /// A matrix of this size with zero in each entry. The only call that takes memory.
+    pub fn new(alloc: Global, size: u32) -> Result<Matrix<E>, AllocError>
+        requires { size ≤ 4096 }
+        ensures { IfOk result (λ m. m ≡ record { size = size; rows = replicate size (replicate size nought_box) }) }
+    {
+        let width = size as usize;
+        let cells = nought_cells(alloc, width * width)?;
+        Ok(Matrix { size, cells })
+    }
+
+    /// The number of rows, and of entries in each.
+    pub fn size(&self) -> u32
+        ensures { result ≡ self.now.size }
+    {
+        self.size
+    }
+
+    /// The entry in this row and this column, counted from 0.
+    pub fn get(&self, row: u32, column: u32) -> Rect<E>
+        requires row_in { row < self.now.size }
+        requires column_in { column < self.now.size }
+        ensures { entry self.now.rows row column ≡ Some (box_of E.ends result) }
+    {
+        let place = place_of(self.size, row, column);
+        self.cells[place]
+    }
+
+    /// Sets the entry in this row and this column, counted from 0.
+    pub fn set(&mut self, row: u32, column: u32, value: Rect<E>)
+        requires row_in { row < self.old.size }
+        requires column_in { column < self.old.size }
+        ensures { self.new ≡ record { size = self.old.size; rows = set_entry self.old.rows row column (box_of E.ends value) } }
+    {
+        let place = place_of(self.size, row, column);
+        self.cells[place] = value;
+    }
+}
