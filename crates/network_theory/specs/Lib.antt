@@ -2,6 +2,7 @@ pub mod Order
 pub mod Branch
 pub mod Network
 pub mod Live
+pub mod Reach
 pub mod Impedance
 pub mod State
 pub mod DrivingPoint

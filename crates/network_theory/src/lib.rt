@@ -2,6 +2,7 @@
 #![tactic(auto)]
 
 ghost use Rattle.network_theory.specs.Laws.{LiveIsLeast, PlainResistance, OneImpedance, StateSolves, InjectiveNodal, SolvedState, ReducedImpedance, Cleared, Peak, SplitAdmittances, GroupAdmittance, StateCurrents, DeadPart, BetweenItself, LiveIsNode, WithinOhms};
+ghost use Rattle.network_theory.specs.Reach.{LiveInRounds};
 ghost use Rattle.network_theory.specs.Phases.{CoupledPhases, BehindRatio};
 ghost use Rattle.network_theory.specs.Figures.{WorkedFigures};
 ghost use Rattle.network_theory.specs.Cases.{WorkedCases};
@@ -12,6 +13,11 @@ ghost use Rattle.network_theory.specs.OneBus.{SeriesAlone, BesideShunt, AtThreeA
 /// The live nodes are in every set that is closed.
 pub fn live_is_least()
     ensures law { LiveIsLeast }
+{}
+
+/// The live nodes of a whole network are those that as many rounds as it has nodes reach, and one.
+pub fn live_in_rounds()
+    ensures law { LiveInRounds }
 {}
 
 /// Where k is 0, R(h) is r.
