@@ -1,0 +1,3 @@
+pub mod PerUnit
+pub mod Small
+pub mod Expansion

@@ -1,0 +1,45 @@
+-- Exact values in per unit. Each argument is the whole number of millionths of a decimal, in the unit that the comment names.
+use Rattle.std.specs.Prelude.{ℕ, ℤ, pos, ◌*◌, ◌^◌, ◌*ℤ◌, ◌-ℤ◌, unsigned_abs, List, slice_get, Option, Some, None}
+use Rattle.exact_algebra.specs.Ratio.{Ratio, over}
+use Rattle.study_model.specs.declared.records.Bus.{Bus}
+
+-- the nominal voltage of a bus that there is; 0 where there is none
+abbrev pub kv_in : Option Bus → ℤ
+kv_in (Some bus) = bus.kv
+kv_in None = pos 0
+
+-- the nominal voltage of the bus of a number, from 0, in kV
+abbrev pub kv_of : List Bus → ℕ → ℤ
+kv_of buses number = kv_in (slice_get buses number)
+
+-- a value as it is written: d/10^6
+unfoldable pub as_written : ℤ → Ratio
+as_written d = over d (10 ^ 6)
+
+-- an impedance of z ohms, for a base of s MVA and v kV: z·s/v²
+unfoldable pub impedance_per_unit : ℤ → ℤ → ℤ → Ratio
+impedance_per_unit z s v = over (z *ℤ s) (unsigned_abs (v *ℤ v))
+
+-- a susceptance of b microsiemens: b·v²/(s·10^18)
+unfoldable pub susceptance_per_unit : ℤ → ℤ → ℤ → Ratio
+susceptance_per_unit b s v = over (b *ℤ (v *ℤ v)) (unsigned_abs s * 10 ^ 18)
+
+-- the impedance of a rating of q MW or MVAr: s/q
+unfoldable pub impedance_of_rating : ℤ → ℤ → Ratio
+impedance_of_rating q s = over s (unsigned_abs q)
+
+-- the susceptance of a rating of q MVAr: q/s
+unfoldable pub susceptance_of_rating : ℤ → ℤ → Ratio
+susceptance_of_rating q s = over q (unsigned_abs s)
+
+-- z percent on a transformer's own rating of t MVA: z·s/(10^8·t)
+unfoldable pub percent_per_unit : ℤ → ℤ → ℤ → Ratio
+percent_per_unit z s t = over (z *ℤ s) (unsigned_abs t * 10 ^ 8)
+
+-- the reactance in series with the resistance of a CIGRE load of p MW: 73·s/(1000·p)
+unfoldable pub cigre_series_reactance : ℤ → ℤ → Ratio
+cigre_series_reactance p s = over (pos 73 *ℤ s) (1000 * unsigned_abs p)
+
+-- the reactance beside them, of a CIGRE load of p MW and q MVAr: 100·s/(670·q - 74·p)
+unfoldable pub cigre_parallel_reactance : ℤ → ℤ → ℤ → Ratio
+cigre_parallel_reactance p q s = over (pos 100 *ℤ s) (unsigned_abs (pos 670 *ℤ q -ℤ pos 74 *ℤ p))

@@ -1,0 +1,163 @@
+// Values of elements in per unit, as exact fractions that are not reduced.
+ghost use Rattle.std.specs.Prelude.{◌≡◌, ◌≤◌, ◌<◌, ◌≤ℤ◌, ◌*ℤ◌, ◌*◌, ◌^◌, pos, length, unsigned_abs};
+ghost use Rattle.exact_algebra.specs.Ratio.{whole};
+ghost use Rattle.exact_fraction.specs.Fraction.{ratio_of};
+ghost use Rattle.study_model.specs.Range.{IsIn};
+ghost use Rattle.study_model.specs.declared.range.TheConstants.Range.{BASE_MVA, BUS_KV};
+ghost use Rattle.element_expansion.specs.PerUnit.{kv_of, as_written, impedance_per_unit, susceptance_per_unit, impedance_of_rating, susceptance_of_rating, percent_per_unit};
+ghost use Rattle.element_expansion.specs.Small.{IsSmall};
+
+use exact_fraction::Fraction;
+use fixed_decimal::Decimal;
+use study_model::Study;
+
+const MILLION: i128 = 1_000_000;
+
+/// Percents in millionths, as parts of one.
+const PERCENT_MILLIONTHS: i128 = 100_000_000;
+
+/// Microsiemens in millionths, and the millionths of two voltages, as siemens and kV.
+const MICROSIEMENS_MILLIONTHS: i128 = 1_000_000_000_000_000_000;
+
+/// The nominal voltage of a bus of the study, in kV.
+pub fn kv(study: &Study, bus: u32) -> Decimal
+    requires { bus < length study.now.buses }
+    ensures { result ≡ kv_of study.now.buses bus }
+{
+    study.buses.as_slice()[bus as usize].kv
+}
+
+/// The product of two decimals, in units of 10^-12.
+fn product(a: Decimal, b: Decimal) -> i128
+    ensures value { result ≡ a *ℤ b }
+    ensures bound { unsigned_abs result < 2 ^ 80 }
+{
+    i128::from(a.millionths) * i128::from(b.millionths)
+}
+
+/// The square of a decimal above 0, in units of 10^-12.
+#[tactic(auto, using(crate::proofs::Values::square_above))]
+fn square(d: Decimal) -> i128
+    requires { pos 1 ≤ℤ d }
+    ensures value { result ≡ d *ℤ d }
+    ensures bound { unsigned_abs result < 2 ^ 80 }
+    ensures positive { pos 1 ≤ℤ result }
+{
+    product(d, d)
+}
+
+/// The square of a bus's nominal voltage, in units of 10^-12.
+#[tactic(auto, using(crate::proofs::Values::square_of_kv))]
+fn kv_square(kv: Decimal) -> i128
+    requires { IsIn BUS_KV kv }
+    ensures value { result ≡ kv *ℤ kv }
+    ensures bound { unsigned_abs result ≤ 4000000000000000000 }
+{
+    product(kv, kv)
+}
+
+/// A decimal times a number of at most 4·10^18.
+fn times(d: Decimal, number: i128) -> i128
+    requires { unsigned_abs number ≤ 4000000000000000000 }
+    ensures value { result ≡ d *ℤ number }
+    ensures bound { unsigned_abs result < 2 ^ 105 }
+{
+    i128::from(d.millionths) * number
+}
+
+/// A decimal above 0 times a number above 0.
+#[tactic(auto, using(crate::proofs::Values::product_above, crate::proofs::Values::product_size))]
+fn scaled(d: Decimal, number: i128) -> i128
+    requires positive { pos 1 ≤ℤ d }
+    requires number { pos 1 ≤ℤ number }
+    requires small { unsigned_abs number ≤ 4000000000000000000 }
+    ensures value { unsigned_abs result ≡ unsigned_abs d * unsigned_abs number }
+    ensures bound { unsigned_abs result < 2 ^ 105 }
+    ensures positive { pos 1 ≤ℤ result }
+{
+    times(d, number)
+}
+
+/// The fraction of two numbers below 2^105 in size.
+fn small(num: i128, den: i128) -> Fraction
+    requires num { unsigned_abs num < 2 ^ 105 }
+    requires den { unsigned_abs den < 2 ^ 105 }
+    requires positive { pos 1 ≤ℤ den }
+    ensures num { result.num ≡ num }
+    ensures den { result.den ≡ den }
+    ensures small { IsSmall (ratio_of result) }
+{
+    Fraction::new(num, den).unwrap()
+}
+
+/// The number 0.
+#[tactic(auto, unfolding(exact_algebra::specs::Ratio::whole))]
+pub fn zero() -> Fraction
+    ensures value { ratio_of result ≡ whole (pos 0) }
+    ensures small { IsSmall (ratio_of result) }
+{
+    small(0, 1)
+}
+
+/// A decimal as it is written: d/10^6.
+#[tactic(auto, unfolding(crate::specs::PerUnit::as_written))]
+pub fn as_written(d: Decimal) -> Fraction
+    ensures value { ratio_of result ≡ as_written d }
+    ensures small { IsSmall (ratio_of result) }
+{
+    small(i128::from(d.millionths), MILLION)
+}
+
+/// An impedance of `z` ohms at a bus of `kv`, in per unit: z·s/v².
+#[tactic(auto, unfolding(crate::specs::PerUnit::impedance_per_unit))]
+pub fn impedance(z: Decimal, mva: Decimal, kv: Decimal) -> Fraction
+    requires { pos 1 ≤ℤ kv }
+    ensures value { ratio_of result ≡ impedance_per_unit z mva kv }
+    ensures small { IsSmall (ratio_of result) }
+{
+    small(product(z, mva), square(kv))
+}
+
+/// The impedance of a rating in MW or MVAr, in per unit: s/q.
+#[tactic(auto, unfolding(crate::specs::PerUnit::impedance_of_rating))]
+pub fn impedance_of_rating(rating: Decimal, mva: Decimal) -> Fraction
+    requires { pos 1 ≤ℤ rating }
+    ensures value { ratio_of result ≡ impedance_of_rating rating mva }
+    ensures small { IsSmall (ratio_of result) }
+{
+    small(i128::from(mva.millionths), i128::from(rating.millionths))
+}
+
+/// The susceptance of a rating in MVAr, in per unit: q/s.
+#[tactic(auto, unfolding(crate::specs::PerUnit::susceptance_of_rating))]
+pub fn susceptance_of_rating(rating: Decimal, mva: Decimal) -> Fraction
+    requires { pos 1 ≤ℤ mva }
+    ensures value { ratio_of result ≡ susceptance_of_rating rating mva }
+    ensures small { IsSmall (ratio_of result) }
+{
+    small(i128::from(rating.millionths), i128::from(mva.millionths))
+}
+
+/// A susceptance of `b` microsiemens at a bus of `kv`, in per unit: b·v²/(s·10^18).
+#[tactic(auto, unfolding(crate::specs::PerUnit::susceptance_per_unit))]
+pub fn susceptance(b: Decimal, mva: Decimal, kv: Decimal) -> Fraction
+    requires mva { pos 1 ≤ℤ mva }
+    requires kv { IsIn BUS_KV kv }
+    ensures value { ratio_of result ≡ susceptance_per_unit b mva kv }
+    ensures small { IsSmall (ratio_of result) }
+{
+    small(
+        times(b, kv_square(kv)),
+        scaled(mva, MICROSIEMENS_MILLIONTHS),
+    )
+}
+
+/// `z` percent on a transformer's own rating, in per unit: z·s/(10^8·t).
+#[tactic(auto, unfolding(crate::specs::PerUnit::percent_per_unit))]
+pub fn percent(z: Decimal, mva: Decimal, rating: Decimal) -> Fraction
+    requires { pos 1 ≤ℤ rating }
+    ensures value { ratio_of result ≡ percent_per_unit z mva rating }
+    ensures small { IsSmall (ratio_of result) }
+{
+    small(product(z, mva), scaled(rating, PERCENT_MILLIONTHS))
+}

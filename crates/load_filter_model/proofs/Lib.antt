@@ -1,0 +1,3 @@
+pub mod LawLists
+pub mod Elements
+pub mod NotZero

@@ -1,0 +1,53 @@
+// The reactances of a load of the CIGRE model, in per unit.
+ghost use Rattle.std.specs.Prelude.{◌≡◌, ◌<◌, ◌^◌, ◌≤ℤ◌, ◌<ℤ◌, ◌*ℤ◌, ◌-ℤ◌, pos, int_lt, IsTrue, unsigned_abs};
+ghost use Rattle.exact_fraction.specs.Fraction.{ratio_of};
+ghost use Rattle.element_expansion.specs.PerUnit.{cigre_series_reactance, cigre_parallel_reactance};
+ghost use Rattle.element_expansion.specs.Small.{IsSmall};
+
+use exact_fraction::Fraction;
+use fixed_decimal::Decimal;
+
+/// A decimal times a coefficient of the model.
+fn times(coefficient: i64, d: Decimal) -> i64
+    requires low { pos 1 ≤ℤ coefficient }
+    requires high { coefficient ≤ℤ pos 1000 }
+    ensures value { result ≡ coefficient *ℤ d }
+    ensures bound { unsigned_abs result < 2 ^ 50 }
+{
+    coefficient * d.millionths
+}
+
+/// 670·q - 74·p.
+fn excess(p: Decimal, q: Decimal) -> i64
+    ensures value { result ≡ pos 670 *ℤ q -ℤ pos 74 *ℤ p }
+    ensures bound { unsigned_abs result < 2 ^ 51 }
+{
+    times(670, q) - times(74, p)
+}
+
+/// Whether the model has a reactance beside the resistance: 6.7·q > 0.74·p.
+pub fn has_parallel_reactance(p: Decimal, q: Decimal) -> bool
+    ensures { result ≡ int_lt (pos 74 *ℤ p) (pos 670 *ℤ q) }
+{
+    times(74, p) < times(670, q)
+}
+
+/// The reactance in series with the resistance: 0.073·s/p.
+#[tactic(auto, unfolding(element_expansion::specs::PerUnit::cigre_series_reactance))]
+pub fn series_reactance(p: Decimal, mva: Decimal) -> Fraction
+    requires { pos 1 ≤ℤ p }
+    ensures value { ratio_of result ≡ cigre_series_reactance p mva }
+    ensures small { IsSmall (ratio_of result) }
+{
+    Fraction::new(i128::from(times(73, mva)), i128::from(times(1000, p))).unwrap()
+}
+
+/// The reactance beside them: s/(6.7·q - 0.74·p).
+#[tactic(auto, unfolding(element_expansion::specs::PerUnit::cigre_parallel_reactance))]
+pub fn parallel_reactance(p: Decimal, q: Decimal, mva: Decimal) -> Fraction
+    requires { IsTrue (int_lt (pos 74 *ℤ p) (pos 670 *ℤ q)) }
+    ensures value { ratio_of result ≡ cigre_parallel_reactance p q mva }
+    ensures small { IsSmall (ratio_of result) }
+{
+    Fraction::new(i128::from(times(100, mva)), i128::from(excess(p, q))).unwrap()
+}

@@ -1,0 +1,4 @@
+pub mod Growth
+pub mod Liveness
+pub mod AtOrderTwo
+pub mod Lawful

@@ -1,0 +1,13 @@
+// The positive and the zero network of a study, and whether its buses are live in them.
+#![tactic(auto)]
+
+mod build;
+mod elements;
+mod live;
+#[cfg(test)]
+mod tests;
+mod worked;
+
+pub use build::build_sequence;
+pub use live::check_live;
+pub use worked::{impedance_by_hand, worked_pair_is_lawful};

@@ -1,0 +1,116 @@
+// Whether the networks of a study are within the limits, and its buses live in them.
+ghost use Rattle.std.specs.Prelude.{◌≡◌, ◌≢◌, ℕ, ◌≤◌, ◌<◌, ◌^◌, length, All, IsTrue, IsFalse, IfOk, IfErr, OnOk};
+ghost use Rattle.network_theory.specs.Live.{Live};
+ghost use Rattle.study_model.specs.Lawful.{IsLawful};
+ghost use Rattle.study_model.specs.declared.words.Sequence.TheVariants.{Positive, Zero};
+ghost use Rattle.study_model.specs.declared.fault.StudyFault.{StudyFault};
+ghost use Rattle.study_model.specs.declared.fault.StudyFault.TheVariants.{TooMany, NoMemory};
+ghost use Rattle.net_branch.specs.Exact.{exact_network};
+ghost use Rattle.net_branch.specs.LiveNodes.{AreLive};
+ghost use Rattle.net_branch.specs.Whole.{IsWholeNetwork};
+ghost use Rattle.element_expansion.specs.Expansion.{is_too_large};
+ghost use Rattle.sequence_network.specs.Networks.{HasBuiltElements, network_of};
+ghost use Rattle.sequence_network.specs.Refusals.{network_place, bus_place, scan_place, IsLiveScan, IsFloatingBus, IsFloatingScan, IsLiveRefusal, HasLiveNetworks};
+
+use crate::build::build_sequence;
+use net_branch::{AddFault, Network, live};
+use std::alloc::Global;
+use study_model::{Key, Place, ScanItem, Section, Sequence, Study, StudyFault};
+
+/// The network of a sequence, or why the study is refused for it.
+fn network(alloc: Global, study: &Study, sequence: Sequence) -> Result<Network, StudyFault>
+    requires lawful { IsLawful study.now }
+    requires built { HasBuiltElements study.now }
+    ensures network { IfOk result (λ network. exact_network network ≡ network_of study.now sequence) }
+    ensures whole { IfOk result IsWholeNetwork }
+    ensures fits { OnOk result (IsFalse (is_too_large (network_of study.now sequence))) }
+    ensures place { IfErr result (λ fault. fault ≢ NoMemory → fault ≡ TooMany network_place) }
+    ensures too_many { IfErr result (λ fault. fault ≢ NoMemory → IsTrue (is_too_large (network_of study.now sequence))) }
+{
+    match build_sequence(alloc, study, sequence) {
+        Ok(network) => Ok(network),
+        Err(AddFault::NoMemory) => Err(StudyFault::NoMemory),
+        Err(AddFault::TooMany) => Err(StudyFault::TooMany(Place {
+            section: Section::Network,
+            entry: 0,
+            key: Key::Nothing,
+        })),
+    }
+}
+
+/// The first of so many buses that isn't live is refused.
+fn check_buses(network: &Network, live: &[bool], buses: u32) -> Result<(), StudyFault>
+    requires live { AreLive network.now live.now }
+    requires within { buses ≤ network.now.nodes }
+    requires few { buses < 2 ^ 31 }
+    ensures ok { OnOk result ((n : ℕ) → n < buses → Live (exact_network network.now) n) }
+    ensures floating { IfErr result (IsFloatingBus (exact_network network.now) buses) }
+{
+    for number in 0..buses {
+        if !live[number as usize] {
+            return Err(StudyFault::Floating(Place {
+                section: Section::Bus,
+                entry: number + 1,
+                key: Key::Nothing,
+            }));
+        }
+    }
+    Ok(())
+}
+
+/// Whether a scan is one of the zero network, at a bus that isn't live there.
+fn is_floating(network: &Network, live: &[bool], scan: &ScanItem) -> bool
+    requires live { AreLive network.now live.now }
+    requires within { scan.now.bus < network.now.nodes }
+    ensures live { IsFalse result → IsLiveScan (exact_network network.now) scan.now }
+    ensures dead { IsTrue result → ¬ (IsLiveScan (exact_network network.now) scan.now) }
+{
+    match scan.network {
+        Sequence::Positive => false,
+        Sequence::Zero => !live[scan.bus as usize],
+    }
+}
+
+/// The first scan of the zero network whose bus isn't live there is refused.
+fn check_scans(network: &Network, live: &[bool], scans: &[ScanItem]) -> Result<(), StudyFault>
+    requires live { AreLive network.now live.now }
+    requires within { All (λ scan. scan.bus < network.now.nodes) scans.now }
+    requires few { length scans.now < 2 ^ 31 }
+    ensures ok { OnOk result (All (IsLiveScan (exact_network network.now)) scans.now) }
+    ensures floating { IfErr result (IsFloatingScan (exact_network network.now) scans.now) }
+{
+    let mut number = 1;
+    for scan in scans {
+        if is_floating(network, live, scan) {
+            return Err(StudyFault::Floating(Place {
+                section: Section::Scan,
+                entry: number,
+                key: Key::Bus,
+            }));
+        }
+        number += 1;
+    }
+    Ok(())
+}
+
+/// Whether a study's two networks are within the limits and its buses live in them. The first refusal in this order: `TooMany` of the
+/// positive and then of the zero network; `Floating` of the first bus that isn't live in the positive network; `Floating` of the first
+/// scan of the zero network whose bus isn't live there. (This project's own.)
+pub fn check_live(alloc: Global, study: &Study) -> Result<(), StudyFault>
+    requires lawful { IsLawful study.now }
+    requires built { HasBuiltElements study.now }
+    ensures ok { OnOk result (HasLiveNetworks study.now) }
+    ensures refused { IfErr result (λ fault. fault ≢ NoMemory → IsLiveRefusal study.now fault) }
+    ensures none { OnOk result ((fault : StudyFault) → ¬ (IsLiveRefusal study.now fault)) }
+{
+    let positive = network(alloc, study, Sequence::Positive)?;
+    let zero = network(alloc, study, Sequence::Zero)?;
+    let Ok(in_positive) = live(alloc, &positive) else {
+        return Err(StudyFault::NoMemory);
+    };
+    let Ok(in_zero) = live(alloc, &zero) else {
+        return Err(StudyFault::NoMemory);
+    };
+    check_buses(&positive, &in_positive, study.buses.len() as u32)?;
+    check_scans(&zero, &in_zero, study.scans.as_slice())
+}
