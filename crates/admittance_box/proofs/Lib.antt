@@ -1,4 +1,16 @@
 pub mod Between
+pub mod FilledMatrices
+pub mod Groups
+pub mod HeldEntries
+pub mod HeldMatrices
+pub mod HeldPairs
 pub mod Laws
+pub mod LivePairs
+pub mod MadeOrders
+pub mod NodeLoops
+pub mod NodeOrders
+pub mod PairPlaces
 pub mod Ranges
+pub mod ReducedMatrices
 pub mod Steps
+pub mod TapLoops

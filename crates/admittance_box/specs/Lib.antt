@@ -1,6 +1,13 @@
+pub mod Addends
 pub mod Admittance
+pub mod Assembled
+pub mod BoxMatrix
 pub mod Exact
+pub mod Filled
 pub mod Held
+pub mod HeldMatrix
+pub mod Intervals
 pub mod Orders
+pub mod Places
 pub mod Series
 pub mod Steps

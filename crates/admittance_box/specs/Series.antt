@@ -11,13 +11,13 @@ use Rattle.admittance_box.specs.Admittance.{SeriesEnds}
 use Rattle.admittance_box.specs.Held.{HoldsSeries}
 use Rattle.admittance_box.specs.Steps.{◌>>=◌}
 
--- the ends of the parameters
-abbrev pub series_ends : {E : Type 0} → (E → Ends) → SeriesParameters E → SeriesEnds
-series_ends ends p = record { r = ends p.r; k = ends p.k; m = ends p.m; x = ends p.x; xc = ends p.xc; plain = p.plain }
-
 -- the value is 0
 abbrev pub is_nought : Fraction → Bool
 is_nought x = int_eq x.num (pos 0)
+
+-- the ends of the parameters
+abbrev pub series_ends : {E : Type 0} → (E → Ends) → SeriesParameters E → SeriesEnds
+series_ends ends p = record { r = ends p.r; k = ends p.k; m = ends p.m; x = ends p.x; xc = ends p.xc; plain = p.plain }
 
 -- each value of low is at most that of high
 pub record AreOrdered (low high : SeriesValues) : Type 0 where
@@ -27,15 +27,19 @@ pub record AreOrdered (low high : SeriesValues) : Type 0 where
   pub x : ratio_of low.x ≼ ratio_of high.x
   pub xc : ratio_of low.xc ≼ ratio_of high.xc
 
--- from each value of low to that of high; k counts as 0 where it is 0 in both
+-- the parameters from r, k, m, x and xc to r', k', m', x' and xc'; k counts as 0 where it is 0 in both
+abbrev pub series_between : ℕ → Ratio → Ratio → Ratio → Ratio → Ratio → Ratio → Ratio → Ratio → Ratio → Ratio → Option SeriesEnds
+series_between s r k m x xc r' k' m' x' xc' = do
+  re ← range_ends s r r'
+  ke ← range_ends s k k'
+  me ← range_ends s m m'
+  xe ← range_ends s x x'
+  xce ← range_ends s xc xc'
+  Some (record { r = re; k = ke; m = me; x = xe; xc = xce; plain = int_eq k.num (pos 0) && int_eq k'.num (pos 0) })
+
+-- the parameters from the values of low to those of high
 abbrev pub ends_between : ℕ → SeriesValues → SeriesValues → Option SeriesEnds
-ends_between s low high = do
-  r ← range_ends s (ratio_of low.r) (ratio_of high.r)
-  k ← range_ends s (ratio_of low.k) (ratio_of high.k)
-  m ← range_ends s (ratio_of low.m) (ratio_of high.m)
-  x ← range_ends s (ratio_of low.x) (ratio_of high.x)
-  xc ← range_ends s (ratio_of low.xc) (ratio_of high.xc)
-  Some (record { r = r; k = k; m = m; x = x; xc = xc; plain = is_nought low.k && is_nought high.k })
+ends_between s low high = series_between s (ratio_of low.r) (ratio_of low.k) (ratio_of low.m) (ratio_of low.x) (ratio_of low.xc) (ratio_of high.r) (ratio_of high.k) (ratio_of high.m) (ratio_of high.x) (ratio_of high.xc)
 
 -- x is at least the one value and at most the other
 pub record IsBetween (low high : Fraction) (x : Ratio) : Type 0 where

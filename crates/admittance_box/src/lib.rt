@@ -1,15 +1,28 @@
 // The interval admittance of a branch over a box of orders.
 #![tactic(auto)]
 
+mod assembly;
+#[cfg(test)]
+mod assembly_tests;
+mod branches;
+mod copies;
 mod exact;
+mod fill;
+mod intervals;
+mod nodal_laws;
+mod node_order;
 mod orders;
 mod series;
 mod shunt;
 mod skin;
+mod taps;
 #[cfg(test)]
 mod tests;
 
+pub use assembly::Assembly;
 pub use exact::{exact_one, exact_zero};
+pub use fill::Fill;
+pub use nodal_laws::{box_matrix_holds, reduced_matrix_holds};
 pub use orders::order_range;
 pub use series::{SeriesParameters, SeriesValues, series_admittance};
 pub use shunt::shunt_admittance;

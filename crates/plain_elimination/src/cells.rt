@@ -37,6 +37,17 @@ pub fn nought_cells<E: Enclosure>(alloc: Global, count: usize) -> Result<Vec<Rec
     Ok(cells)
 }
 
+/// Sets each cell to zero.
+pub fn clear_cells<E: Enclosure>(cells: &mut [Rect<E>])
+    ensures { map (box_of E.ends) cells.new ≡ replicate (length cells.old) nought_box }
+{
+    let re = nought();
+    let zero = Rect { re, im: re };
+    for cell in cells.iter_mut() {
+        *cell = zero;
+    }
+}
+
 /// The cells from this one on.
 pub fn cells_from<E: Enclosure>(cells: &[Rect<E>], start: usize) -> &[Rect<E>]
     requires { start ≤ length cells.now }

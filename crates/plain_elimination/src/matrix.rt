@@ -3,7 +3,7 @@ ghost use Rattle.std.specs.Prelude.{◌≡◌, ◌+◌, ◌*◌, ◌<◌, ◌≤
 ghost use Rattle.complex_interval.specs.Rect.{box_of};
 ghost use Rattle.plain_elimination.specs.Matrix.{Square, entry, set_entry, nought_box};
 
-use crate::cells::{nought_cells, place_of};
+use crate::cells::{clear_cells, nought_cells, place_of};
 use complex_interval::{Enclosure, Rect};
 use std::alloc::{AllocError, Global};
 use std::marker::Model;
@@ -37,6 +37,13 @@ impl<E: Enclosure> Matrix<E> {
         let width = size as usize;
         let cells = nought_cells(alloc, width * width)?;
         Ok(Matrix { size, cells })
+    }
+
+    /// Sets each entry to zero.
+    pub fn clear(&mut self)
+        ensures { self.new ≡ record { size = self.old.size; rows = replicate self.old.size (replicate self.old.size nought_box) } }
+    {
+        clear_cells(self.cells.as_mut_slice());
     }
 
     /// The number of rows, and of entries in each.

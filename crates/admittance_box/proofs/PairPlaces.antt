@@ -1,0 +1,148 @@
+-- The places of nodes in the order, and of the pairs of a branch's taps.
+use Rattle.std.proofs.Common.{◌≡◌, ℕ, zero, suc, ◌<◌, ◌≤◌, Bool, true, false, List, [], ◌∷◌, ◌++◌, length, map, get_or, refl, sym, subst, ap, arith, Option, inl, inr}
+use Rattle.std.proofs.lemmas.Option.{slice_get_within}
+use Rattle.std.specs.Prelude.{Some, None, IsSome, IfSome, is_some, slice_get, ◌==◌, if◌then◌else◌}
+use Rattle.std.specs.List.{AllByRecursion}
+use Rattle.std.specs.Option.{option_map}
+use Rattle.complex_interval.specs.Ends.{Ends, range_ends, mul_ends}
+use Rattle.network_theory.specs.Branch.{Tap, Branch}
+use Rattle.network_theory.specs.Network.{Network}
+use Rattle.network_theory.specs.Live.{Live}
+use Rattle.network_theory.specs.Nodal.{ListsLive}
+use Rattle.network_theory.proofs.Bridge.{contains_among, among_contains}
+use Rattle.network_theory.proofs.Carried.{IsAmong}
+use Rattle.admittance_box.specs.declared.intervals.BranchIntervals.{BranchIntervals}
+use Rattle.admittance_box.specs.declared.intervals.BranchIntervals.TheVariants.{Dead as DeadIntervals, Absent as AbsentIntervals, Joined as JoinedIntervals}
+use Rattle.admittance_box.specs.declared.intervals.TapProduct.{TapProduct}
+use Rattle.admittance_box.specs.Addends.{LawEnds, PlacedTap, TapPair, Dead, Joined, tap_between, taps_between, pair_between, pairs_with, tap_pairs, has_place, joined, law_between, addend_between, addends_between}
+use Rattle.admittance_box.specs.Filled.{IsWithin}
+use Rattle.admittance_box.specs.Intervals.{pair_ends, addend_of}
+use Rattle.admittance_box.specs.Places.{place_of}
+use Rattle.admittance_box.specs.Steps.{◌>>=◌}
+use Rattle.admittance_box.proofs.HeldEntries.{some_suc}
+use Rattle.admittance_box.proofs.HeldMatrices.{place-among}
+use Rattle.admittance_box.proofs.Steps.{bind-some}
+
+-- ---- nodes
+-- the node at its place
+pub place-get : (order : List ℕ) (n i : ℕ) → place_of order n ≡ Some i → slice_get order i ≡ Some n
+place-get [] n i e = absurd cc
+place-get (m ∷ order) n i e = go (m == n) refl e (λ j k. place-get order n j k)
+  where
+    go : (t : Bool) → (m == n) ≡ t → (if t then Some 0 else option_map suc (place_of order n)) ≡ Some i → ((j : ℕ) → place_of order n ≡ Some j → slice_get order j ≡ Some n) → slice_get (m ∷ order) i ≡ Some n
+    go true q k more =
+        let at : m ≡ n = grind arith in
+        let first : 0 ≡ i = grind arith in
+        subst (λ j. slice_get (m ∷ order) j ≡ Some n) first (ap Some at)
+    go false q k more =
+        let (j, pj, is) = some_suc (place_of order n) i k in
+        subst (λ l. slice_get (m ∷ order) l ≡ Some n) is (more j pj)
+
+pub place-below : (order : List ℕ) (n i : ℕ) → place_of order n ≡ Some i → i < length order
+place-below order n i e = slice_get_within order i n (place-get order n i e)
+
+among_at : (order : List ℕ) (i n : ℕ) → slice_get order i ≡ Some n → IsAmong n order
+among_at [] i n e = absurd cc
+among_at (m ∷ order) zero n e = inl (let q : m ≡ n = grind arith in sym q)
+among_at (m ∷ order) (suc i) n e = inr (among_at order i n e)
+
+-- a node has a place exactly where it is live
+pub place_live : (network : Network) (order : List ℕ) (n : ℕ) (o : Option ℕ) → ListsLive network order → o ≡ place_of order n → (IsSome o → Live network n) × (Live network n → IsSome o)
+place_live network order n None l e = (λ h. absurd cc, λ v. let has = place-among n order (contains_among n order ((l.live n).0 v)) in let same : is_some (place_of order n) ≡ false = ap is_some (sym e) in absurd cc)
+place_live network order n (Some i) l e = (λ h. (l.live n).1 (among_contains n order (among_at order i n (place-get order n i (sym e)))), λ v. refl)
+
+pub place_is : (order : List ℕ) (n : ℕ) (o : Option ℕ) → o ≡ place_of order n → IfSome o (λ place. slice_get order place ≡ Some n)
+place_is order n None e = tt
+place_is order n (Some i) e = place-get order n i (sym e)
+
+-- ---- pairs of taps
+abbrev Below : ℕ → TapPair → Type 0
+Below size p = (p.row < size) × (p.column < size)
+
+all-append : (size : ℕ) (xs ys : List TapPair) → AllByRecursion (Below size) xs → AllByRecursion (Below size) ys → AllByRecursion (Below size) (xs ++ ys)
+all-append size [] ys a b = b
+all-append size (x ∷ xs) ys a b = (a.0, all-append size xs ys a.1 b)
+
+module _ (s : ℕ) (order : List ℕ) where
+  tap_below : (t u : Tap) (p : PlacedTap) → tap_between s order t u ≡ Some p → p.place < length order
+  tap_below t u p e =
+      let (place, e1, n1) = bind-some (place_of order t.node) _ p e in
+      let (ratio, e2, e3) = bind-some (range_ends s t.ratio u.ratio) (λ r. Some (record { place = place; ratio = r })) p n1 in
+      let is : record { place = place; ratio = ratio } ≡ p = cc in
+      subst (λ (q : PlacedTap). q.place < length order) is (place-below order t.node place e1)
+
+  taps_below : (ts us : List Tap) (placed : List PlacedTap) → taps_between s order ts us ≡ Some placed → AllByRecursion (λ p. p.place < length order) placed
+  taps_below [] us placed e = let is : [] ≡ placed = cc in subst (AllByRecursion (λ (p : PlacedTap). p.place < length order)) is tt
+  taps_below (t ∷ ts) [] placed e = absurd cc
+  taps_below (t ∷ ts) (u ∷ us) placed e =
+      let (tap, e1, n1) = bind-some _ _ placed e in
+      let (taps, e2, e3) = bind-some _ _ placed n1 in
+      let is : tap ∷ taps ≡ placed = cc in
+      subst (AllByRecursion (λ (p : PlacedTap). p.place < length order)) is (tap_below t u tap e1, taps_below ts us taps e2)
+
+  pair_below : (t u : PlacedTap) (p : TapPair) → t.place < length order → u.place < length order → pair_between s t u ≡ Some p → Below (length order) p
+  pair_below t u p h k e =
+      let (factor, e1, e2) = bind-some (mul_ends s t.ratio u.ratio) (λ f. Some (record { row = t.place; column = u.place; factor = f })) p e in
+      let is : record { row = t.place; column = u.place; factor = factor } ≡ p = cc in
+      subst (Below (length order)) is (h, k)
+
+  row_below : (t : PlacedTap) (us : List PlacedTap) (pairs : List TapPair) → t.place < length order → AllByRecursion (λ p. p.place < length order) us → pairs_with s t us ≡ Some pairs → AllByRecursion (Below (length order)) pairs
+  row_below t [] pairs h a e = let is : [] ≡ pairs = cc in subst (AllByRecursion (Below (length order))) is tt
+  row_below t (u ∷ us) pairs h a e =
+      let (pair, e1, n1) = bind-some _ _ pairs e in
+      let (rest, e2, e3) = bind-some _ _ pairs n1 in
+      let is : pair ∷ rest ≡ pairs = cc in
+      subst (AllByRecursion (Below (length order))) is (pair_below t u pair h a.0 e1, row_below t us rest h a.1 e2)
+
+  pairs_below : (ts us : List PlacedTap) (pairs : List TapPair) → AllByRecursion (λ p. p.place < length order) ts → AllByRecursion (λ p. p.place < length order) us → tap_pairs s ts us ≡ Some pairs → AllByRecursion (Below (length order)) pairs
+  pairs_below [] us pairs a b e = let is : [] ≡ pairs = cc in subst (AllByRecursion (Below (length order))) is tt
+  pairs_below (t ∷ ts) us pairs a b e =
+      let (row, e1, n1) = bind-some _ _ pairs e in
+      let (rest, e2, e3) = bind-some _ _ pairs n1 in
+      let is : row ++ rest ≡ pairs = cc in
+      subst (AllByRecursion (Below (length order))) is (all-append (length order) row rest (row_below t us row a.0 b e1) (pairs_below ts us rest a.1 b e2))
+
+  addend_below : (a b : Branch) (law : LawEnds) (pairs : List TapPair) → addend_between s order a b ≡ Joined law pairs → AllByRecursion (Below (length order)) pairs
+  addend_below a b law pairs e = by_place (has_place order a.taps) e
+    where
+      by_pairs : (l : LawEnds) (taps : List PlacedTap) → AllByRecursion (λ p. p.place < length order) taps → (o : Option (List TapPair)) → tap_pairs s taps taps ≡ o → joined (Some l) o ≡ Joined law pairs → AllByRecursion (Below (length order)) pairs
+      by_pairs l taps h None k q = absurd cc
+      by_pairs l taps h (Some ps) k q = let is : ps ≡ pairs = cc in subst (AllByRecursion (Below (length order))) is (pairs_below taps taps ps h h k)
+
+      by_taps : (l : LawEnds) (o : Option (List PlacedTap)) → taps_between s order a.taps b.taps ≡ o → joined (Some l) (o >>= (λ taps. tap_pairs s taps taps)) ≡ Joined law pairs → AllByRecursion (Below (length order)) pairs
+      by_taps l None k q = absurd cc
+      by_taps l (Some taps) k q = by_pairs l taps (taps_below a.taps b.taps taps k) (tap_pairs s taps taps) refl q
+
+      by_law : (o : Option LawEnds) → joined o (taps_between s order a.taps b.taps >>= (λ taps. tap_pairs s taps taps)) ≡ Joined law pairs → AllByRecursion (Below (length order)) pairs
+      by_law None q = absurd cc
+      by_law (Some l) q = by_taps l (taps_between s order a.taps b.taps) refl q
+
+      by_place : (t : Bool) → (if t then joined (law_between s a.law b.law) (taps_between s order a.taps b.taps >>= (λ taps. tap_pairs s taps taps)) else Dead) ≡ Joined law pairs → AllByRecursion (Below (length order)) pairs
+      by_place true q = by_law (law_between s a.law b.law) q
+      by_place false q = absurd cc
+
+  module _ {E : Type 0} (ends : E → Ends) where
+    items_below : (ps : List (TapProduct E)) → AllByRecursion (Below (length order)) (map (pair_ends ends) ps) → (k : ℕ) (d : TapProduct E) → k < length ps → (get_or ps k d).row < length order × (get_or ps k d).column < length order
+    items_below [] h k d l = absurd (omega arith)
+    items_below (p ∷ ps) h zero d l = h.0
+    items_below (p ∷ ps) h (suc k) d l = items_below ps h.1 k d (omega arith)
+
+    branch_within : (a b : Branch) (x : BranchIntervals E) → addend_of ends x ≡ addend_between s order a b → IsWithin (length order) x
+    branch_within a b DeadIntervals e = tt
+    branch_within a b AbsentIntervals e = tt
+    branch_within a b (JoinedIntervals law pairs) e = items_below pairs.items (addend_below a b _ _ (sym e))
+
+    -- the pairs of each branch have places in the matrix
+    pub branches_within : (ls hs : List Branch) (xs : List (BranchIntervals E)) → map (addend_of ends) xs ≡ addends_between s order ls hs → (k : ℕ) (d : BranchIntervals E) → k < length xs → IsWithin (length order) (get_or xs k d)
+    branches_within ls hs [] e k d l = absurd (omega arith)
+    branches_within [] hs (x ∷ xs) e k d l = absurd cc
+    branches_within (a ∷ ls) [] (x ∷ xs) e k d l = absurd cc
+    branches_within (a ∷ ls) (b ∷ hs) (x ∷ xs) e zero d l = let first : addend_of ends x ≡ addend_between s order a b = cc in branch_within a b x first
+    branches_within (a ∷ ls) (b ∷ hs) (x ∷ xs) e (suc k) d l = let rest : map (addend_of ends) xs ≡ addends_between s order ls hs = cc in branches_within ls hs xs rest k d (omega arith)
+
+    -- and there are as many as in the networks
+    pub branches_count : (ls hs : List Branch) (xs : List (BranchIntervals E)) → map (addend_of ends) xs ≡ addends_between s order ls hs → length xs ≤ length ls
+    branches_count ls hs [] e = omega arith
+    branches_count [] hs (x ∷ xs) e = absurd cc
+    branches_count (a ∷ ls) [] (x ∷ xs) e = absurd cc
+    branches_count (a ∷ ls) (b ∷ hs) (x ∷ xs) e = let rest : map (addend_of ends) xs ≡ addends_between s order ls hs = cc in let more = branches_count ls hs xs rest in omega arith

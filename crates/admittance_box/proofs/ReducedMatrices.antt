@@ -1,0 +1,27 @@
+-- The reduction of a box's matrix holds the exact reduced value.
+use Rattle.std.proofs.Common.{◌≡◌, ℕ, suc, List, Ok, subst}
+use Rattle.exact_algebra.specs.Complex.{complex_numbers}
+use Rattle.linear_systems.specs.Linear.{IsSquare}
+use Rattle.network_theory.proofs.Driven.{nodal_square}
+use Rattle.plain_elimination.proofs.Rectangles.{reduction_holds}
+use Rattle.complex_interval.specs.Boxes.{Box}
+use Rattle.network_theory.specs.Order.{Order}
+use Rattle.network_theory.specs.Network.{Network}
+use Rattle.plain_elimination.specs.Rectangles.{reduce_boxes}
+use Rattle.admittance_box.specs.HeldMatrix.{HoldsNodal, HoldsReduced, ReducedMatrixHolds}
+use Rattle.admittance_box.proofs.HeldMatrices.{box_matrix_holds}
+
+-- a value of the reduction of boxes that hold the nodal matrix
+pub reduced_of : (s : ℕ) (network : Network) (h : Order) (driven : ℕ) (order : List ℕ) (boxes : List (List Box)) (value : Box) → HoldsNodal s network h driven order boxes → reduce_boxes s boxes ≡ Ok value → HoldsReduced s network h driven value
+reduced_of s network h driven order boxes value has r =
+    let square : IsSquare complex_numbers (suc has.n) has.rows = subst (λ k. IsSquare complex_numbers k has.rows) has.last.count (nodal_square network h has.parts order has.rows has.system) in
+    let reduced = reduction_holds s has.n boxes value has.rows r square has.held in
+    record {
+      y = reduced.y;
+      reduced = record { parts = has.parts; order = order; rows = has.rows; n = has.n; system = has.system; last = has.last; value = reduced.each };
+      held = reduced.held;
+    }
+
+pub reduced_matrix_holds : (s : ℕ) → ReducedMatrixHolds s
+reduced_matrix_holds s low high driven order can lo hi boxes value e r h i lies network between =
+    reduced_of s network h driven order boxes value (box_matrix_holds s low high driven order can lo hi boxes e h i lies network between) r

@@ -1,0 +1,61 @@
+-- What the matrix of a box says of exact networks.
+use Rattle.std.specs.Prelude.{◌≡◌, ℕ, List, Ok}
+use Rattle.std.specs.List.{AllByRecursion}
+use Rattle.exact_algebra.specs.Complex.{Complex}
+use Rattle.complex_interval.specs.Boxes.{Box as ComplexBox, EnclosesComplex}
+use Rattle.network_theory.specs.Order.{Order, IsOrder}
+use Rattle.network_theory.specs.Box.{LiesIn}
+use Rattle.network_theory.specs.Network.{Network, IsUncoupled}
+use Rattle.network_theory.specs.Live.{Live}
+use Rattle.network_theory.specs.Between.{IsPair, LiesBetween}
+use Rattle.network_theory.specs.Admittance.{Part}
+use Rattle.network_theory.specs.Nodal.{IsNodalSystem, IsLast}
+use Rattle.network_theory.specs.Scanned.{IsReducedTo}
+use Rattle.plain_elimination.specs.Elimination.{HoldsRows}
+use Rattle.plain_elimination.specs.Rectangles.{reduce_boxes}
+use Rattle.admittance_box.specs.BoxMatrix.{box_matrix}
+use Rattle.admittance_box.specs.Places.{IsNodeOrder}
+
+-- no branch belongs to a group of three, which the assembly can't take yet
+abbrev pub HasNoGroup : Network → Type 0
+HasNoGroup network = AllByRecursion IsUncoupled network.branches
+
+-- a pair of networks and a live node with its node order, for which the assembly is meant
+pub record CanAssemble (low high : Network) (driven : ℕ) (order : List ℕ) : Type 0 where
+  pub pair : IsPair low high
+  pub no_group : HasNoGroup low
+  pub driven_is_live : Live low driven
+  pub ordered : IsNodeOrder low driven order
+
+-- each branch with a live node has an admittance at order h, and the boxes hold the sums of them, the entries of the nodal matrix with the driven node last
+pub record HoldsNodal (s : ℕ) (network : Network) (h : Order) (driven : ℕ) (order : List ℕ) (boxes : List (List ComplexBox)) : Type 0 where
+  pub parts : List Part
+  pub rows : List (List Complex)
+  pub n : ℕ
+  pub system : IsNodalSystem network h parts order rows
+  pub last : IsLast order n driven
+  pub held : HoldsRows (EnclosesComplex s) boxes rows
+
+-- so at every order of the box, for every network between the two
+abbrev pub HoldsEach : ℕ → Network → Network → ℕ → List ℕ → ℕ → ℕ → List (List ComplexBox) → Type 0
+HoldsEach s low high driven order lo hi boxes =
+    (h : Order) → IsOrder h → LiesIn h (record { lo = lo; hi = hi }) → (network : Network) → LiesBetween network low high → HoldsNodal s network h driven order boxes
+
+-- the matrix of a box, where it has a value, holds the exact one at every order of the box, for every network between the two
+abbrev pub BoxMatrixHolds : ℕ → Type 0
+BoxMatrixHolds s =
+    (low high : Network) (driven : ℕ) (order : List ℕ) → CanAssemble low high driven order
+    → (lo hi : ℕ) (boxes : List (List ComplexBox)) → box_matrix s low high order lo hi ≡ Ok boxes → HoldsEach s low high driven order lo hi boxes
+
+-- the reduced value y of the nodal matrix with the driven node last, which the box holds
+pub record HoldsReduced (s : ℕ) (network : Network) (h : Order) (driven : ℕ) (value : ComplexBox) : Type 0 where
+  pub y : Complex
+  pub reduced : IsReducedTo network h driven y
+  pub held : EnclosesComplex s value y
+
+-- a value of the reduction of a box's matrix holds the exact reduced value at every order of the box, for every network between the two
+abbrev pub ReducedMatrixHolds : ℕ → Type 0
+ReducedMatrixHolds s =
+    (low high : Network) (driven : ℕ) (order : List ℕ) → CanAssemble low high driven order
+    → (lo hi : ℕ) (boxes : List (List ComplexBox)) (value : ComplexBox) → box_matrix s low high order lo hi ≡ Ok boxes → reduce_boxes s boxes ≡ Ok value
+    → (h : Order) → IsOrder h → LiesIn h (record { lo = lo; hi = hi }) → (network : Network) → LiesBetween network low high → HoldsReduced s network h driven value

@@ -1,0 +1,127 @@
+// The assembly of the nodal matrix of a pair of networks over a box of orders.
+ghost use Rattle.std.specs.Prelude.{◌≡◌, ◌≤◌, ◌<◌, ◌↔◌, IfOk, IfSome, IsSome, length, Some, slice_get};
+ghost use Rattle.network_theory.specs.Live.{Live};
+ghost use Rattle.network_theory.specs.Between.{IsPair};
+ghost use Rattle.network_theory.specs.Nodal.{ListsLive};
+ghost use Rattle.net_branch.specs.declared.limits.TheConstants.{MAX_NODES};
+ghost use Rattle.net_branch.specs.Exact.{exact_network};
+ghost use Rattle.net_branch.specs.Whole.{IsWholeNetwork};
+ghost use Rattle.admittance_box.specs.Assembled.{Assembled, IsMade};
+ghost use Rattle.admittance_box.specs.BoxMatrix.{box_matrix};
+ghost use Rattle.admittance_box.specs.Filled.{FillsAs};
+ghost use Rattle.admittance_box.specs.HeldMatrix.{HasNoGroup, HoldsEach};
+ghost use Rattle.admittance_box.specs.declared.fill.Fill.TheVariants.{Filled};
+
+use crate::branches::branches_between;
+use crate::copies::copy_of;
+use crate::fill::{Fill, add_branches};
+use crate::intervals::BranchIntervals;
+use crate::node_order::order_nodes;
+use crate::orders::order_range;
+use crate::taps::find_place;
+use complex_interval::Enclosure;
+use net_branch::{Network, NodeId, live};
+use plain_elimination::Matrix;
+use std::alloc::{AllocError, Global};
+use std::marker::Model;
+
+/// The assembly of the matrices of a pair of networks and a driven node. Contracts see the pair, the
+/// driven node and the node order, which the network's live nodes determine.
+#[derive(Drop)]
+pub struct Assembly<E: Enclosure> {
+    low: Network,
+    high: Network,
+    driven: u32,
+    order: Vec<u32>,
+    branches: Vec<BranchIntervals<E>>,
+}
+
+impl<E: Enclosure> Model for Assembly<E> {
+    ghost use Rattle.std.specs.Prelude.{◌≡◌, map};
+    ghost use Rattle.net_branch.specs.Exact.{exact_network};
+    ghost use Rattle.admittance_box.specs.Assembled.{Assembled, IsKept};
+    ghost use Rattle.admittance_box.specs.Intervals.{addend_of};
+
+    ghost Value = { Assembled };
+
+    ghost view = { λ a. record { low = exact_network a.low; high = exact_network a.high; driven = a.driven; order = a.order.items } };
+
+    ghost invariant = { λ a. IsKept E.SCALE (record { low = exact_network a.low; high = exact_network a.high; driven = a.driven; order = a.order.items }) (map (addend_of E.ends) a.branches.items) };
+}
+
+impl<E: Enclosure> Assembly<E> {
+    /// The assembly of the networks from `low` to `high`, driven at a live node. All intervals are made
+    /// here, once.
+    pub fn between(
+        alloc: Global,
+        low: &Network,
+        high: &Network,
+        driven: NodeId,
+    ) -> Result<Assembly<E>, AllocError>
+        requires whole_low { IsWholeNetwork low.now }
+        requires whole_high { IsWholeNetwork high.now }
+        requires pair { IsPair (exact_network low.now) (exact_network high.now) }
+        requires no_group { HasNoGroup (exact_network low.now) }
+        requires live { Live (exact_network low.now) driven.number }
+        ensures { IfOk result (λ a. IsMade (exact_network low.now) (exact_network high.now) driven.number a) }
+    {
+        let marks = live(alloc, low)?;
+        let order = order_nodes(alloc, low, marks.as_slice(), driven.number)?;
+        let low_branches = low.branches.as_slice();
+        let high_branches = high.branches.as_slice();
+        let branches = branches_between(alloc, order.as_slice(), low_branches, high_branches)?;
+        Ok(Assembly {
+            low: copy_of(alloc, low)?,
+            high: copy_of(alloc, high)?,
+            driven: driven.number,
+            order,
+            branches,
+        })
+    }
+
+    /// The assembly of a network alone: that of the network and itself.
+    pub fn new(alloc: Global, network: &Network, driven: NodeId) -> Result<Assembly<E>, AllocError>
+        requires whole { IsWholeNetwork network.now }
+        requires no_group { HasNoGroup (exact_network network.now) }
+        requires live { Live (exact_network network.now) driven.number }
+        ensures { IfOk result (λ a. IsMade (exact_network network.now) (exact_network network.now) driven.number a) }
+    {
+        Assembly::between(alloc, network, network, driven)
+    }
+
+    /// The number of live nodes.
+    pub fn size(&self) -> u32
+        ensures count { result ≡ length self.now.order }
+        ensures few { result ≤ MAX_NODES }
+        ensures live { ListsLive self.now.low self.now.order }
+    {
+        self.order.len() as u32
+    }
+
+    /// The place of a node in the matrix, counted from 0. None exactly where the node isn't live.
+    pub fn position(&self, node: NodeId) -> Option<u32>
+        ensures live { IsSome result ↔ Live self.now.low node.number }
+        ensures place { IfSome result (λ place. slice_get self.now.order place ≡ Some node.number) }
+    {
+        find_place(self.order.as_slice(), node.number)
+    }
+
+    /// Fills the matrix over the orders from `lo` to `hi`, in micro-orders: the nodal matrix in per
+    /// unit, as a sum over the branches of the pair for each two live nodes. `OutOfRange` exactly where
+    /// it has no value, with the first branch at which it has none, counted from 0; the entries are then
+    /// unspecified. It takes no memory.
+    pub fn fill(&mut self, lo: u32, hi: u32, matrix: &mut Matrix<E>) -> Fill
+        requires lowest { 100000 ≤ lo }
+        requires ordered { lo ≤ hi }
+        requires highest { hi ≤ 100000000 }
+        requires size { matrix.old.size ≡ length self.old.order }
+        ensures stated { FillsAs result matrix.new.rows (box_matrix E.SCALE self.old.low self.old.high self.old.order lo hi) }
+        ensures holds { result ≡ Filled → HoldsEach E.SCALE self.old.low self.old.high self.old.driven self.old.order lo hi matrix.new.rows }
+        ensures size { matrix.new.size ≡ matrix.old.size }
+        ensures unchanged { self.new ≡ self.old }
+    {
+        let order = order_range(lo, hi);
+        matrix.clear();
+        add_branches(self.branches.as_slice(), order, matrix)
+    }
+}
