@@ -1,7 +1,7 @@
 -- How deep a stack grows, and what a split leaves to come.
 use Rattle.std.proofs.Common.{◌≡◌, ◌≢◌, ℕ, zero, suc, ◌+◌, ◌-◌, ◌*◌, ◌^◌, ◌<◌, ◌≤◌, Bool, true, false, cond, nat_le, List, [], ◌∷◌, ◌++◌, length, Option, Some, None, option_map, ℤ, refl, ap, ◌∙◌, sym, arith, append_assoc, subst, pow-suc}
 use Rattle.band_subdivision.specs.Stack.{Band, split_top, below_top, top_of, IsStack}
-use Rattle.band_subdivision.specs.Boxes.{IsTestable, BoxTest, Widths, middle, kind_of, peak_of, peak_or, settled, boxes_within, boxes_of}
+use Rattle.band_subdivision.specs.Boxes.{IsTestable, BoxTest, above_at, Widths, middle, kind_of, peak_of, peak_or, settled, boxes_within, boxes_of}
 use Rattle.band_subdivision.specs.Left.{boxes_left}
 use Rattle.scan_report.specs.declared.boxes.BoxRow.{BoxRow}
 use Rattle.scan_report.specs.declared.boxes.Kind.{Kind}
@@ -14,7 +14,7 @@ peak_or_none at (Some ohms) other h = cc
 
 pub peak_of_none : (test : BoxTest) (lo hi : ℕ) (other : Option Kind) → peak_of test lo hi other ≡ None → other ≡ None
 peak_of_none test lo hi other h =
-    peak_or_none hi (test.above hi) other (peak_or_none lo (test.above lo) _ (peak_or_none (middle lo hi) (test.above (middle lo hi)) _ h))
+    peak_or_none hi (above_at test hi) other (peak_or_none lo (above_at test lo) _ (peak_or_none (middle lo hi) (above_at test (middle lo hi)) _ h))
 
 fine_false : (fine : Bool) → cond fine (Some Undecided) None ≡ None → fine ≡ false
 fine_false true h = cc

@@ -8,3 +8,5 @@ pub mod LevelValues
 pub mod Sound
 pub mod Truths
 pub mod Texts
+pub mod PairTests
+pub mod Scans

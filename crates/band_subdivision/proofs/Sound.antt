@@ -29,7 +29,8 @@ use Rattle.network_theory.proofs.Sizes.{above_by}
 use Rattle.network_theory.proofs.Ohms.{ohms_square}
 use Rattle.band_subdivision.specs.Boxes.{IsTestable}
 use Rattle.band_subdivision.specs.IntervalTest.{AreScanLevels, inverse_threshold, clear_bound, above_bound, micro_ohms_of, is_clear_by, ohms_above_by, interval_test}
-use Rattle.band_subdivision.specs.Truth.{millionths, orders, scanned_by, IsTruePeak, HoldsReduced, IntervalTestIsSound}
+use Rattle.admittance_box.specs.HeldMatrix.{HoldsReduced}
+use Rattle.band_subdivision.specs.Truth.{millionths, orders, scanned_by, IsTruePeak, IntervalTestIsSound}
 use Rattle.band_subdivision.specs.declared.interval_test.ScanLevels.{ScanLevels}
 use Rattle.band_subdivision.proofs.Comparisons.{clear_by, not_clear_by, ohms_by, ohms_scaled}
 use Rattle.band_subdivision.proofs.LevelValues.{units, millionth, natural, square_below, within_square, square_over, apart_natural, scaled_below, scaled_above, held_above, held_below, millionths_are, power_apart, power_natural, inverse_natural, threshold_inverse, ohms_below}
@@ -132,7 +133,7 @@ threshold_at levels h = per_unit (flat (millionths levels.threshold)) (millionth
 inverse_scaled : (scale : ℕ) (levels : ScanLevels) → NotNegative (times (inverse_threshold levels) (units scale))
 inverse_scaled scale levels = ratio_order.product (inverse_natural levels) (natural (2 ^ scale))
 
-cleared_at : (scale : ℕ) (levels : ScanLevels) (network : Network) (h : Order) (node : ℕ) (number : ℤ) (held : Box) → AreScanLevels levels → HoldsReduced scale held network h node
+cleared_at : (scale : ℕ) (levels : ScanLevels) (network : Network) (h : Order) (node : ℕ) (number : ℤ) (held : Box) → AreScanLevels levels → HoldsReduced scale network h node held
     → clear_bound scale levels ≡ Some number → unsigned_abs number * unsigned_abs number ≤ low_square_sum held → IsClearedAt network h node (threshold_at levels h)
 cleared_at scale levels network h node number held in_range exact bound least =
     let n = unsigned_abs number in
@@ -140,7 +141,7 @@ cleared_at scale levels network h node number held in_range exact bound least =
     cleared network h node (threshold_at levels h) exact.y exact.reduced
     (clear_by (threshold_at levels h) (inverse_threshold levels) (units scale) (reciprocal (units scale)) (whole (pos n)) (whole (pos low)) (square_size exact.y)
     (threshold_inverse levels h in_range) (apart_natural (2 ^ scale) (pow_pos scale)) (inverse_scaled scale levels)
-    (above_inverse scale levels number bound) (square_below n low least) (held_above scale low exact.y (low_square_bound scale held exact.y exact.holds)))
+    (above_inverse scale levels number bound) (square_below n low least) (held_above scale low exact.y (low_square_bound scale held exact.y exact.held)))
 
 -- whole micro-orders of a box of one order
 micro_is_order : (at : ℕ) → IsTestable at at → IsOrder (micro at)
@@ -150,13 +151,13 @@ micro_inside : (at : ℕ) → LiesIn (micro at) (orders at at)
 micro_inside at = record { low = omega arith; high = omega arith }
 
 module _ (scale : ℕ) (levels : ScanLevels) (network : Network) (node at : ℕ) (number : ℤ) (held : Box) (in_range : AreScanLevels levels)
-    (exact : HoldsReduced scale held network (micro at) node) (bound : above_bound scale levels ≡ Some number)
+    (exact : HoldsReduced scale network (micro at) node held) (bound : above_bound scale levels ≡ Some number)
     (most : high_square_sum held < unsigned_abs number * unsigned_abs number) (some : 0 < low_square_sum held) where
   reduced_apart : ¬ (complex_numbers.◌≈◌ exact.y nought)
-  reduced_apart = apart_held (low_square_sum held) scale exact.y some (held_above scale (low_square_sum held) exact.y (low_square_bound scale held exact.y exact.holds))
+  reduced_apart = apart_held (low_square_sum held) scale exact.y some (held_above scale (low_square_sum held) exact.y (low_square_bound scale held exact.y exact.held))
 
   reduced_below : times (square_size exact.y) (times (units scale) (units scale)) ≼ whole (pos (high_square_sum held))
-  reduced_below = held_below scale (high_square_sum held) exact.y (high_square_bound scale held exact.y exact.holds)
+  reduced_below = held_below scale (high_square_sum held) exact.y (high_square_bound scale held exact.y exact.held)
 
   peak_there : IsPeakAt network (micro at) node (threshold_at levels (micro at))
   peak_there =

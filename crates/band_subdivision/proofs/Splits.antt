@@ -2,7 +2,7 @@
 use Rattle.std.proofs.Common.{◌≡◌, ℕ, zero, suc, ◌-◌, ◌<◌, ◌≤◌, Bool, true, false, cond, nat_le, List, [], ◌∷◌, ◌++◌, Option, Some, None, ℤ, refl, arith}
 use Rattle.std.specs.List.{AllByRecursion}
 use Rattle.std.proofs.lemmas.Bool.Decides.{nat_tests}
-use Rattle.band_subdivision.specs.Boxes.{BoxTest, Widths, middle, kind_of, peak_of, peak_or, settled, boxes_within, boxes_of}
+use Rattle.band_subdivision.specs.Boxes.{BoxTest, above_at, Widths, middle, kind_of, peak_of, peak_or, settled, boxes_within, boxes_of}
 use Rattle.band_subdivision.specs.Split.{NamesNoPeak, IsSplit, ComesFrom, itself, lower, upper}
 use Rattle.band_subdivision.proofs.Levels.{kind_none, peak_or_none}
 use Rattle.scan_report.specs.declared.boxes.BoxRow.{BoxRow}
@@ -16,12 +16,12 @@ peak_or_absent at (Some ohms) other h = cc
 
 pub no_peak_named : (test : BoxTest) (lo hi : ℕ) (other : Option Kind) → peak_of test lo hi other ≡ None → NamesNoPeak test lo hi
 no_peak_named test lo hi other h =
-    let after_middle = peak_or_none (middle lo hi) (test.above (middle lo hi)) _ h in
-    let after_low = peak_or_none lo (test.above lo) _ after_middle in
+    let after_middle = peak_or_none (middle lo hi) (above_at test (middle lo hi)) _ h in
+    let after_low = peak_or_none lo (above_at test lo) _ after_middle in
     record {
-      at_middle = peak_or_absent (middle lo hi) (test.above (middle lo hi)) _ h;
-      at_low = peak_or_absent lo (test.above lo) _ after_middle;
-      at_high = peak_or_absent hi (test.above hi) other after_low;
+      at_middle = peak_or_absent (middle lo hi) (above_at test (middle lo hi)) _ h;
+      at_low = peak_or_absent lo (above_at test lo) _ after_middle;
+      at_high = peak_or_absent hi (above_at test hi) other after_low;
     }
 
 -- what is chosen where a box isn't settled

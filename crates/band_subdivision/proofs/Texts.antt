@@ -4,7 +4,7 @@ use Rattle.std.specs.Prelude.{if◌then◌else◌}
 use Rattle.exact_fraction.proofs.Steps.{pow_at_most}
 use Rattle.exact_fraction.specs.Root.{root_ceil_of}
 use Rattle.complex_interval.specs.Boxes.{Box, high_square_sum}
-use Rattle.band_subdivision.specs.Boxes.{BoxTest, Widths, middle, peak_or, peak_of, kind_of, boxes_of}
+use Rattle.band_subdivision.specs.Boxes.{BoxTest, above_at, Widths, middle, peak_or, peak_of, kind_of, boxes_of}
 use Rattle.band_subdivision.specs.Split.{ComesFrom, itself, lower, upper}
 use Rattle.band_subdivision.specs.IntervalTest.{AreScanLevels, micro_ohms_of, above_bound, interval_test}
 use Rattle.band_subdivision.specs.BoxText.{ohms_of_kind, HasText, BoxesHaveText}
@@ -19,17 +19,17 @@ use Rattle.scan_report.specs.declared.boxes.Kind.TheVariants.{Cleared, Undecided
 
 -- a test whose micro-ohms can be written
 record NamesOhms (test : BoxTest) : Type 0 where
-  pub at_each : (at : ℕ) (ohms : ℤ) → test.above at ≡ Some ohms → IsOhms (Some ohms)
+  pub at_each : (at : ℕ) (ohms : ℤ) → above_at test at ≡ Some ohms → IsOhms (Some ohms)
 
 -- a kind that is absent or can be written
 abbrev CanWrite : Option Kind → Type 0
 CanWrite None = Unit {0}
 CanWrite (Some kind) = IsOhms (ohms_of_kind kind)
 
-peak_or_writes : (test : BoxTest) (at : ℕ) (other : Option Kind) → NamesOhms test → CanWrite other → CanWrite (peak_or at (test.above at) other)
-peak_or_writes test at other names h = by (test.above at) refl
+peak_or_writes : (test : BoxTest) (at : ℕ) (other : Option Kind) → NamesOhms test → CanWrite other → CanWrite (peak_or at (above_at test at) other)
+peak_or_writes test at other names h = by (above_at test at) refl
   where
-    by : (found : Option ℤ) → test.above at ≡ found → CanWrite (peak_or at found other)
+    by : (found : Option ℤ) → above_at test at ≡ found → CanWrite (peak_or at found other)
     by None is = h
     by (Some ohms) is = names.at_each at ohms is
 

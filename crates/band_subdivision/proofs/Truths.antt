@@ -2,7 +2,7 @@
 use Rattle.std.proofs.Common.{◌≡◌, ℕ, ◌-◌, ◌<◌, ◌≤◌, Bool, true, false, nat_le, Option, Some, None, ℤ, pos, negsuc, refl, subst, arith}
 use Rattle.std.specs.Prelude.{if◌then◌else◌}
 use Rattle.std.proofs.lemmas.Bool.Decides.{nat_tests}
-use Rattle.band_subdivision.specs.Boxes.{BoxTest, IsTestable, Widths, middle, peak_or, peak_of, kind_of, boxes_of}
+use Rattle.band_subdivision.specs.Boxes.{BoxTest, above_at, IsTestable, Widths, middle, peak_or, peak_of, kind_of, boxes_of}
 use Rattle.band_subdivision.specs.Split.{NamesNoPeak, ComesFrom, itself, lower, upper}
 use Rattle.band_subdivision.specs.Truth.{Scanned, IsTruePeak, IsTrueKind, IsTrueRow, IsSound, BoxesAreTrue}
 use Rattle.band_subdivision.proofs.Splits.{boxes_come, all_along}
@@ -17,17 +17,17 @@ widened s lo hi at (negsuc m) low high h = h
 
 -- where a peak is looked for at an order of the box, it is named there truly, or what comes after is
 peak_or_true : (s : Scanned) (test : BoxTest) (widths : Widths) (lo hi at : ℕ) (other : Option Kind) (kind : Kind) → IsSound s test → IsTestable at at → lo ≤ at → at ≤ hi
-    → peak_or at (test.above at) other ≡ Some kind → (test.above at ≡ None → other ≡ Some kind → IsTrueKind s test widths lo hi kind) → IsTrueKind s test widths lo hi kind
-peak_or_true s test widths lo hi at other kind sound testable low high e after = by (test.above at) refl e
+    → peak_or at (above_at test at) other ≡ Some kind → (above_at test at ≡ None → other ≡ Some kind → IsTrueKind s test widths lo hi kind) → IsTrueKind s test widths lo hi kind
+peak_or_true s test widths lo hi at other kind sound testable low high e after = by (above_at test at) refl e
   where
-    by : (found : Option ℤ) → test.above at ≡ found → peak_or at found other ≡ Some kind → IsTrueKind s test widths lo hi kind
+    by : (found : Option ℤ) → above_at test at ≡ found → peak_or at found other ≡ Some kind → IsTrueKind s test widths lo hi kind
     by None is named = after is named
     by (Some ohms) is named =
         let same : Peak at ohms ≡ kind = cc in
         subst (λ k. IsTrueKind s test widths lo hi k) same (widened s lo hi at ohms low high (sound.above at ohms testable is))
 
 -- a box of the widths' kinds
-record Bounds (lo hi : ℕ) : Type 0 where
+pub record Bounds (lo hi : ℕ) : Type 0 where
   pub up : lo < hi
   pub testable : IsTestable lo hi
 
@@ -76,7 +76,7 @@ choice_true s test widths lo hi kind sound order bounds false false true is_clea
     absurd (omega arith)
 choice_true s test widths lo hi kind sound order bounds false false false is_clear is_near is_fine e = absurd (cc)
 
-kind_true : (s : Scanned) (test : BoxTest) (widths : Widths) (lo hi : ℕ) (kind : Kind) → IsSound s test → widths.finest ≤ widths.locate → Bounds lo hi
+pub kind_true : (s : Scanned) (test : BoxTest) (widths : Widths) (lo hi : ℕ) (kind : Kind) → IsSound s test → widths.finest ≤ widths.locate → Bounds lo hi
     → kind_of test widths lo hi ≡ Some kind → IsTrueKind s test widths lo hi kind
 unfolding kind_of
 kind_true s test widths lo hi kind sound order bounds e =

@@ -4,10 +4,14 @@ use Rattle.scan_report.specs.declared.boxes.Kind.{Kind}
 use Rattle.scan_report.specs.declared.boxes.Kind.TheVariants.{Cleared, Peak, Undecided}
 use Rattle.scan_report.specs.declared.boxes.BoxRow.{BoxRow}
 
--- which boxes the test clears, and at which orders it finds the impedance above, with micro-ohms
+-- which boxes the test clears, and over which it finds the impedance above, with micro-ohms
 pub record BoxTest : Type 0 where
   pub clear : ℕ → ℕ → Bool
-  pub above : ℕ → Option ℤ
+  pub above : ℕ → ℕ → Option ℤ
+
+-- what it finds at an order alone
+abbrev pub above_at : BoxTest → ℕ → Option ℤ
+above_at test at = test.above at at
 
 -- a box of orders that a test may be asked about: from 0.1 to 100
 pub record IsTestable (lo hi : ℕ) : Type 0 where
@@ -31,7 +35,7 @@ peak_or at None other = other
 
 -- the first of the middle, the low end and the high end that is above
 abbrev pub peak_of : BoxTest → ℕ → ℕ → Option Kind → Option Kind
-peak_of test lo hi other = peak_or (middle lo hi) (test.above (middle lo hi)) (peak_or lo (test.above lo) (peak_or hi (test.above hi) other))
+peak_of test lo hi other = peak_or (middle lo hi) (above_at test (middle lo hi)) (peak_or lo (above_at test lo) (peak_or hi (above_at test hi) other))
 
 -- what becomes of a box: its kind, or none where it is split
 unfoldable pub kind_of : BoxTest → Widths → ℕ → ℕ → Option Kind

@@ -52,5 +52,5 @@ ohms_above_by scale levels None y = None
 unfoldable pub interval_test : ℕ → ScanLevels → (ℕ → ℕ → Option Box) → BoxTest
 interval_test scale levels reduced = record {
   clear = λ lo hi. is_clear_by (clear_bound scale levels) (reduced lo hi);
-  above = λ at. ohms_above_by scale levels (above_bound scale levels) (reduced at at);
+  above = λ lo hi. ohms_above_by scale levels (above_bound scale levels) (reduced lo hi);
 }

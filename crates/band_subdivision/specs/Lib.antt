@@ -1,11 +1,14 @@
 pub mod Boxes
 pub mod Stack
 pub mod Left
-pub mod Walk
 pub mod Cover
 pub mod Split
 pub mod IntervalTest
+pub mod PairTest
+pub mod ScanSpec
 pub mod Testing
+pub mod Scan
 pub mod Truth
+pub mod PairTruth
 pub mod BoxText
 pub mod WorkedBounds

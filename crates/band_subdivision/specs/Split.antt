@@ -1,14 +1,14 @@
 -- How a box comes out of a band.
 use Rattle.std.specs.Prelude.{◌≡◌, ℕ, ◌-◌, ◌<◌, ◌≤◌, false, Some, None}
-use Rattle.band_subdivision.specs.Boxes.{BoxTest, Widths, middle, kind_of}
+use Rattle.band_subdivision.specs.Boxes.{BoxTest, above_at, Widths, middle, kind_of}
 use Rattle.scan_report.specs.declared.boxes.BoxRow.{BoxRow}
 use Rattle.scan_report.specs.declared.boxes.Kind.{Kind}
 
 -- the test finds the impedance above at none of a box's middle, low end and high end
 pub record NamesNoPeak (test : BoxTest) (lo hi : ℕ) : Type 0 where
-  pub at_middle : test.above (middle lo hi) ≡ None
-  pub at_low : test.above lo ≡ None
-  pub at_high : test.above hi ≡ None
+  pub at_middle : above_at test (middle lo hi) ≡ None
+  pub at_low : above_at test lo ≡ None
+  pub at_high : above_at test hi ≡ None
 
 -- a box that is split: it is wider than the finest, isn't cleared, and names no peak where it is narrow enough to name one
 pub record IsSplit (test : BoxTest) (widths : Widths) (lo hi : ℕ) : Type 0 where

@@ -1,15 +1,37 @@
--- What an interval test is seen as, and how its bounds are tied to its levels.
-use Rattle.std.specs.Prelude.{◌≡◌, ℕ, ℤ, Option}
+-- What a test of boxes is seen as, and what it keeps.
+use Rattle.std.specs.Prelude.{◌≡◌, ℕ, ℤ, ◌≤◌, List, length, Option}
+use Rattle.exact_algebra.specs.Ratio.{Ratio}
+use Rattle.complex_interval.specs.Ends.{Ends, range_ends}
+use Rattle.network_theory.specs.Network.{Network}
+use Rattle.plain_elimination.specs.Matrix.{Square}
+use Rattle.band_subdivision.specs.Boxes.{BoxTest}
 use Rattle.band_subdivision.specs.IntervalTest.{AreScanLevels, clear_bound, above_bound}
+use Rattle.band_subdivision.specs.PairTest.{pair_test}
+use Rattle.band_subdivision.specs.ScanSpec.{levels_of}
+use Rattle.band_subdivision.specs.declared.scan_spec.ScanSpec.{ScanSpec}
 use Rattle.band_subdivision.specs.declared.interval_test.ScanLevels.{ScanLevels}
 
--- the network's reduction and the levels
-pub record Testing (R : Type 0) : Type 0 where
-  pub reduction : R
-  pub levels : ScanLevels
+-- what is asked of a scan, a pair of networks that is driven at a node, with the node order, and an extra susceptance there
+pub record Testing : Type 0 where
+  pub spec : ScanSpec
+  pub low : Network
+  pub high : Network
+  pub driven : ℕ
+  pub order : List ℕ
+  pub extra : Ratio
+
+-- the test of boxes, at a scale of intervals
+abbrev pub box_test : ℕ → Testing → BoxTest
+box_test scale t = pair_test scale (levels_of t.spec) t.low t.high t.order t.extra
 
 -- levels in range, with their bounds
 pub record AreBounds (scale : ℕ) (levels : ScanLevels) (to_clear to_name : Option ℤ) : Type 0 where
   pub in_range : AreScanLevels levels
   pub clear : to_clear ≡ clear_bound scale levels
   pub above : to_name ≡ above_bound scale levels
+
+-- a matrix for the node order, and the interval of the extra susceptance
+pub record AreParts (scale : ℕ) (order : List ℕ) (matrix : Square) (extra : Ratio) (susceptance : Option Ends) : Type 0 where
+  pub size : matrix.size ≡ length order
+  pub some : 1 ≤ length order
+  pub is : susceptance ≡ range_ends scale extra extra

@@ -2,14 +2,14 @@
 use Rattle.std.specs.Prelude.{◌≡◌, ℕ, ◌-◌, ◌^◌, ◌≤◌, ◌<◌, ℤ, pos, negsuc, true, false, Option, Some}
 use Rattle.std.specs.List.{AllByRecursion}
 use Rattle.exact_algebra.specs.Ratio.{Ratio, over}
-use Rattle.exact_algebra.specs.Complex.{Complex}
-use Rattle.complex_interval.specs.Boxes.{Box, EnclosesComplex}
+use Rattle.complex_interval.specs.Boxes.{Box}
 use Rattle.network_theory.specs.Order.{Order, IsOrder}
 use Rattle.network_theory.specs.Box.{Box as OrderBox, LiesIn}
 use Rattle.network_theory.specs.Network.{Network}
 use Rattle.network_theory.specs.Threshold.{Threshold, flat}
-use Rattle.network_theory.specs.Scanned.{IsCleared, IsPeak, IsReducedTo}
-use Rattle.band_subdivision.specs.Boxes.{BoxTest, IsTestable, Widths, boxes_of}
+use Rattle.network_theory.specs.Scanned.{IsCleared, IsPeak}
+use Rattle.admittance_box.specs.HeldMatrix.{HoldsReduced}
+use Rattle.band_subdivision.specs.Boxes.{BoxTest, above_at, IsTestable, Widths, boxes_of}
 use Rattle.band_subdivision.specs.Split.{NamesNoPeak}
 use Rattle.band_subdivision.specs.IntervalTest.{AreScanLevels, interval_test}
 use Rattle.band_subdivision.specs.declared.interval_test.ScanLevels.{ScanLevels}
@@ -65,17 +65,11 @@ IsTrueRow s test widths row = IsTrueKind s test widths row.lo row.hi row.kind
 -- what a test says of a box is true
 pub record IsSound (s : Scanned) (test : BoxTest) : Type 0 where
   pub clear : (lo hi : ℕ) → IsTestable lo hi → test.clear lo hi ≡ true → IsClearedBox s lo hi
-  pub above : (at : ℕ) (micro_ohms : ℤ) → IsTestable at at → test.above at ≡ Some micro_ohms → IsTruePeak s at at at micro_ohms
-
--- the exact reduced admittance of a node at an order, held by a box
-pub record HoldsReduced (scale : ℕ) (held : Box) (network : Network) (h : Order) (node : ℕ) : Type 0 where
-  pub y : Complex
-  pub reduced : IsReducedTo network h node y
-  pub holds : EnclosesComplex scale held y
+  pub above : (at : ℕ) (micro_ohms : ℤ) → IsTestable at at → above_at test at ≡ Some micro_ohms → IsTruePeak s at at at micro_ohms
 
 -- where there is a reduced admittance over a box of orders, it holds the exact one at every order in it
 pub record ReducesTo (scale : ℕ) (reduced : ℕ → ℕ → Option Box) (network : Network) (node : ℕ) : Type 0 where
-  pub at_each : (lo hi : ℕ) (held : Box) (h : Order) → IsTestable lo hi → reduced lo hi ≡ Some held → IsOrder h → LiesIn h (orders lo hi) → HoldsReduced scale held network h node
+  pub at_each : (lo hi : ℕ) (held : Box) (h : Order) → IsTestable lo hi → reduced lo hi ≡ Some held → IsOrder h → LiesIn h (orders lo hi) → HoldsReduced scale network h node held
 
 -- the interval test is sound where the reduced admittances hold the exact ones
 abbrev pub IntervalTestIsSound : Type 0

@@ -1,16 +1,13 @@
-// The test of boxes by the reduced admittance of the driven node.
+// What an admittance over a box of orders says of the impedance.
 ghost use Rattle.std.specs.Prelude.{◌≡◌, pos, ◌*◌, ◌^◌, ◌≤◌, ◌<◌, ◌≤ℤ◌, unsigned_abs};
 ghost use Rattle.std.specs.Option.{option_map};
 ghost use Rattle.complex_interval.specs.Rect.{box_of};
-ghost use Rattle.band_subdivision.specs.IntervalTest.{AreScanLevels, interval_test, inverse_threshold, micro_ohms_of, is_clear_by, ohms_above_by};
+ghost use Rattle.band_subdivision.specs.IntervalTest.{AreScanLevels, clear_bound, above_bound, inverse_threshold, micro_ohms_of, is_clear_by, ohms_above_by};
 ghost use Rattle.exact_fraction.specs.Fraction.{ratio_of};
 
-use crate::boxes::TestsBoxes;
-use crate::reduction::Reduction;
 use complex_interval::{Enclosure, Rect};
 use exact_fraction::{Fraction, root_ceil};
 use fixed_decimal::Decimal;
-use std::marker::Model;
 
 /// What a scan compares an impedance with, and its base values.
 #[derive(Clone, Copy)]
@@ -23,58 +20,22 @@ pub struct ScanLevels {
     pub mva: Decimal,
 }
 
-/// A test of boxes by a network's reduction: clear where the admittance is at least 1/T over the whole box, for the threshold T per unit,
-/// and above where it is less and other than zero. Both bounds are computed once.
-#[derive(Drop)]
-pub struct IntervalTest<R: Reduction> {
-    reduction: R,
-    levels: ScanLevels,
-    clear_bound: Option<i64>,
-    above_bound: Option<i64>,
+/// 1/T in units of 1 / 2^SCALE, rounded up. None where it is out of range.
+#[tactic(auto, unfolding(crate::specs::IntervalTest::clear_bound))]
+pub fn bound_to_clear<E: Enclosure>(levels: &ScanLevels) -> Option<i64>
+    requires { AreScanLevels levels.now }
+    ensures { result ≡ clear_bound E.SCALE levels.now }
+{
+    inverse_of(levels).ceil_scaled(E::SCALE)
 }
 
-impl<R: Reduction> Model for IntervalTest<R> {
-    ghost use Rattle.band_subdivision.specs.Testing.{Testing, AreBounds};
-
-    ghost Value = { Testing R };
-
-    ghost view = { λ t. record { reduction = t.reduction; levels = t.levels } };
-
-    ghost invariant = { λ t. AreBounds R.Interval.SCALE t.levels t.clear_bound t.above_bound };
-}
-
-#[tactic(auto, unfolding(crate::specs::IntervalTest::clear_bound, crate::specs::IntervalTest::above_bound))]
-impl<R: Reduction> IntervalTest<R> {
-    /// The test of a scan with these levels. Condition: they are in range.
-    pub fn new(reduction: R, levels: ScanLevels) -> IntervalTest<R>
-        requires { AreScanLevels levels }
-        ensures test { (⟦<IntervalTest<R> as TestsBoxes>⟧.test result) ≡ interval_test R.Interval.SCALE levels (R.reduced reduction) }
-    {
-        let inverse = inverse_of(&levels);
-        let clear_bound = inverse.ceil_scaled(R::Interval::SCALE);
-        let above_bound = inverse.floor_scaled(R::Interval::SCALE);
-        IntervalTest {
-            reduction,
-            levels,
-            clear_bound,
-            above_bound,
-        }
-    }
-}
-
-#[tactic(auto, unfolding(crate::specs::IntervalTest::interval_test))]
-impl<R: Reduction> TestsBoxes for IntervalTest<R> {
-    ghost test = { λ t. interval_test R.Interval.SCALE t.levels (R.reduced t.reduction) };
-
-    fn is_clear(&mut self, lo: u32, hi: u32) -> bool {
-        let reduced = self.reduction.reduce(lo, hi);
-        is_clear_of(self.clear_bound, reduced)
-    }
-
-    fn ohms_above(&mut self, at: u32) -> Option<i128> {
-        let reduced = self.reduction.reduce(at, at);
-        ohms_of(&self.levels, self.above_bound, reduced)
-    }
+/// 1/T in these units, rounded down. None where it is out of range.
+#[tactic(auto, unfolding(crate::specs::IntervalTest::above_bound))]
+pub fn bound_to_name<E: Enclosure>(levels: &ScanLevels) -> Option<i64>
+    requires { AreScanLevels levels.now }
+    ensures { result ≡ above_bound E.SCALE levels.now }
+{
+    inverse_of(levels).floor_scaled(E::SCALE)
 }
 
 /// 1/T = v²/(threshold·s), for the threshold T per unit.
@@ -89,7 +50,7 @@ fn inverse_of(levels: &ScanLevels) -> Fraction
 }
 
 /// Whether each number of the box is at least the bound in size.
-fn is_clear_of<E: Enclosure>(bound: Option<i64>, reduced: Option<Rect<E>>) -> bool
+pub fn is_clear_of<E: Enclosure>(bound: Option<i64>, reduced: Option<Rect<E>>) -> bool
     ensures { result ≡ is_clear_by bound (option_map (box_of E.ends) reduced) }
 {
     match bound {
@@ -102,7 +63,7 @@ fn is_clear_of<E: Enclosure>(bound: Option<i64>, reduced: Option<Rect<E>>) -> bo
 }
 
 /// The micro-ohms of a box whose numbers are all less than the bound in size, and other than zero.
-fn ohms_of<E: Enclosure>(
+pub fn ohms_of<E: Enclosure>(
     levels: &ScanLevels,
     bound: Option<i64>,
     reduced: Option<Rect<E>>,
@@ -170,6 +131,3 @@ fn micro_ohms(scale: u32, levels: &ScanLevels, high: u128) -> i128
     let below = size_of(levels.mva) * root_ceil(high) as u128;
     signed(kv * kv * unit_of(scale) / below)
 }
-
-#[cfg(test)]
-mod tests;

@@ -2,23 +2,30 @@
 #![tactic(auto)]
 
 ghost use Rattle.band_subdivision.specs.Truth.{IntervalTestIsSound, BoxesAreTrue};
+ghost use Rattle.band_subdivision.specs.PairTruth.{PairTestIsSound};
 ghost use Rattle.band_subdivision.specs.BoxText.{BoxesHaveText};
 ghost use Rattle.band_subdivision.specs.WorkedBounds.{WorkedBounds};
 
-pub mod boxes;
-pub mod interval_test;
-pub mod reduction;
-pub mod stack;
-pub mod walk;
+mod boxes;
+mod interval_test;
+mod pair_test;
+mod scan;
+mod scan_spec;
+mod stack;
 
-pub use boxes::{TestsBoxes, settle};
-pub use interval_test::{IntervalTest, ScanLevels};
-pub use reduction::Reduction;
-pub use walk::Walk;
+pub use interval_test::ScanLevels;
+pub use scan::Scan;
+pub use scan_spec::{ScanSpec, Tested};
 
 /// The interval test is sound where the reduced admittances hold the exact ones.
 pub fn interval_test_is_sound()
     ensures law { IntervalTestIsSound }
+{}
+
+/// The test of a pair of networks is sound for every network between the two, with one more shunt of the extra
+/// susceptance at the driven node where that is above 0.
+pub fn pair_test_is_sound()
+    ensures law { PairTestIsSound }
 {}
 
 /// By a sound test, what each box of a band says is true.
@@ -35,3 +42,6 @@ pub fn boxes_have_text()
 pub fn worked_bounds()
     ensures law { WorkedBounds }
 {}
+
+#[cfg(test)]
+mod tests;

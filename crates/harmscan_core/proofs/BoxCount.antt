@@ -1,5 +1,5 @@
 -- How many boxes a band has.
-use Rattle.std.proofs.Common.{◌≡◌, ℕ, zero, suc, ◌+◌, ◌-◌, ◌<◌, ◌≤◌, List, ◌++◌, length, Option, Some, None, refl, arith, length-append}
+use Rattle.std.proofs.Common.{◌≡◌, ℕ, zero, suc, ◌-◌, ◌<◌, ◌≤◌, List, length, Option, Some, None, refl, arith, length-append}
 use Rattle.band_subdivision.specs.Boxes.{BoxTest, Widths, middle, kind_of, settled, boxes_within, boxes_of}
 use Rattle.band_subdivision.proofs.Levels.{kind_none}
 use Rattle.scan_report.specs.declared.boxes.BoxRow.{BoxRow}

@@ -1,13 +1,10 @@
 -- When each status comes, from what a run does.
-use Rattle.std.proofs.Common.{◌≡◌, ◌≢◌, ◌⊎◌, inl, inr, ℕ, ◌<◌, Bool, true, false, cond, List, [], ◌∷◌, ◌++◌, length, Option, Some, None, IfSome, subst, refl, ap, sym, ◌∙◌, arith}
+use Rattle.std.proofs.Common.{◌≡◌, ◌≢◌, ◌⊎◌, inl, inr, ℕ, ◌<◌, Bool, true, false, cond, List, Option, Some, None, subst, refl, ap, sym, ◌∙◌, arith}
 use Rattle.harm_io.specs.Shelves.{ShelfState, asked_too}
 use Rattle.harm_io.specs.Sinks.{SinkState, took}
 use Rattle.study_model.specs.declared.records.Study.{Study}
 use Rattle.harmscan_core.specs.Report.{report_status}
-use Rattle.harm_io.specs.Causes.{Rose}
-use Rattle.study_reader.specs.StudyOf.{Refused as RefusedFor}
-use Rattle.harmscan_core.specs.Lines.{line_at}
-use Rattle.harmscan_core.specs.Outcome.{HappensFor, status_at, Asks, IsWritten, IsRefusal, WritesReport, StopsWithin, RefusesFor, Says, longest_file}
+use Rattle.harmscan_core.specs.Outcome.{HappensFor, status_at, Asks, IsWritten, IsRefusal, WritesReport, StopsWithin}
 use Rattle.harmscan_core.specs.declared.outcome.Outcome.{Outcome}
 use Rattle.harmscan_core.specs.declared.outcome.Outcome.TheVariants.{WordsRefused, ReadFailed, TooLarge, Refused, WriteFailed, NoMemory, Written}
 

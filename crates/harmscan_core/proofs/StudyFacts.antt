@@ -1,207 +1,154 @@
--- What follows from a study of the form that is built.
-use Rattle.std.proofs.Common.{◌≡◌, ◌≤◌, ◌<◌, ◌+◌, ◌-◌, ◌*◌, ◌∙◌, slice_index_or, ℕ, zero, suc, ℤ, pos, ◌≤ℤ◌, ◌<ℤ◌, unsigned_abs, List, [], ◌∷◌, ◌++◌, map, length, ap, sym, subst, refl, arith, append_assoc, append-nil, length-append}
+-- What follows from a study that can be scanned.
+use Rattle.std.proofs.Common.{◌≡◌, ◌≢◌, ◌⊎◌, inl, inr, ◌≤◌, ◌<◌, ◌∙◌, ℕ, unsigned_abs, List, [], ◌∷◌, length, ap, subst, refl, arith}
 use Rattle.std.proofs.lemmas.Int.{ints}
-use Rattle.std.specs.Prelude.{All, Contains, Option, Some, None}
+use Rattle.std.specs.Prelude.{IsTrue}
 use Rattle.std.specs.List.{AllByRecursion}
-use Rattle.exact_algebra.specs.Ratio.{whole}
-use Rattle.network_theory.specs.Branch.{Branch}
-use Rattle.network_theory.specs.Network.{Network}
-use Rattle.network_theory.specs.OneNode.{ground_tap, IsOneNode}
-use Rattle.band_subdivision.specs.Boxes.{BoxTest, Widths, IsTestable, boxes_of}
-use Rattle.band_subdivision.specs.IntervalTest.{AreScanLevels, interval_test}
+use Rattle.network_theory.specs.Network.{Network, IsWhole}
+use Rattle.network_theory.specs.Live.{Live}
+use Rattle.network_theory.proofs.More.{between_itself}
+use Rattle.admittance_box.specs.HeldMatrix.{CanAssemble}
+use Rattle.band_subdivision.specs.Boxes.{IsTestable, boxes_of}
 use Rattle.band_subdivision.specs.BoxText.{HasText}
-use Rattle.band_subdivision.specs.Truth.{IsTrueRow, IsSound, scanned_by}
-use Rattle.band_subdivision.specs.declared.interval_test.ScanLevels.{ScanLevels}
+use Rattle.band_subdivision.specs.PairTest.{pair_test}
+use Rattle.band_subdivision.specs.Scan.{Scanning, IsScanOf}
+use Rattle.band_subdivision.specs.ScanSpec.{levels_of, widths_of, IsScanSpec, nothing}
+use Rattle.band_subdivision.specs.Truth.{IsSound}
+use Rattle.band_subdivision.specs.declared.scan_spec.ScanSpec.{ScanSpec}
 use Rattle.band_subdivision.proofs.Covering.{boxes_cover}
 use Rattle.band_subdivision.proofs.Splits.{boxes_come}
-use Rattle.band_subdivision.proofs.Sound.{test_is_sound}
+use Rattle.band_subdivision.proofs.PairTests.{pair_is_sound}
 use Rattle.band_subdivision.proofs.Truths.{boxes_are_true}
 use Rattle.band_subdivision.proofs.Texts.{boxes_have_text}
-use Rattle.study_model.specs.declared.records.Bus.{Bus}
-use Rattle.study_model.specs.declared.records.Source.{Source}
-use Rattle.study_model.specs.declared.records.Bank.{Bank}
+use Rattle.scan_report.specs.declared.boxes.BoxRow.{BoxRow}
+use Rattle.study_model.specs.Lawful.{IsLawful, IsLawfulScan}
 use Rattle.study_model.specs.declared.records.ScanItem.{ScanItem}
 use Rattle.study_model.specs.declared.records.Study.{Study}
-use Rattle.study_reader.specs.Built.{IsWithin, IsBuiltBus, IsBuiltSource, IsBuiltBank, IsBuiltScan, IsBuilt}
-use Rattle.harmscan_core.specs.Expansion.{kv_of, to_ground, source_law, bank_law, source_branches, bank_branches, first_bank, network_of}
-use Rattle.harmscan_core.specs.BusAdmittance.{GroundEnds, ground_ends, grounds_of, admittance_sum}
-use Rattle.harmscan_core.specs.Scan.{levels_of, test_of, widths_of, boxes_in}
-use Rattle.harmscan_core.specs.Claim.{HoldsOfScan, HoldsOfStudy}
-use Rattle.harmscan_core.proofs.BusReduction.{one_node_reduces}
+use Rattle.study_model.specs.declared.words.Sequence.{Sequence}
+use Rattle.study_model.specs.declared.words.Sequence.TheVariants.{Positive, Zero}
+use Rattle.net_branch.specs.Exact.{exact_network}
+use Rattle.net_branch.specs.Whole.{IsWholeNetwork}
+use Rattle.net_branch.specs.declared.network.Network.{Network as BuiltNetwork}
+use Rattle.net_branch.specs.declared.fault.AddFault.{AddFault}
+use Rattle.net_branch.specs.declared.fault.AddFault.TheVariants.{TooMany, NoMemory}
+use Rattle.element_expansion.specs.Expansion.{is_too_large}
+use Rattle.element_expansion.proofs.Values.{kv_within}
+use Rattle.study_reader.specs.Built.{IsBuilt}
+use Rattle.study_reader.proofs.Forms.{form_of}
+use Rattle.sequence_network.specs.Networks.{HasBuiltElements, network_of}
+use Rattle.sequence_network.specs.Refusals.{IsLiveScan, HasLiveNetworks}
+use Rattle.harmscan_core.specs.Scan.{spec_of, order_of, test_of, boxes_in}
+use Rattle.harmscan_core.specs.Claim.{looked_at, HoldsOfScan, HoldsOfStudy}
+use Rattle.harmscan_core.specs.Plan.{CanScan}
 use Rattle.harmscan_core.proofs.BoxCount.{boxes_few}
+use Rattle.harmscan_core.proofs.NodeOrders.{order_is}
 
--- the voltage of a bus that there is
-pub kv_within : (buses : List Bus) (n : ℕ) → All IsBuiltBus buses → n < length buses → IsWithin 100000 2000000000 (kv_of buses n)
-kv_within [] n all h = absurd (omega arith)
-kv_within (b ∷ bs) zero all h = let first : IsBuiltBus b = all 0 b h in first.kv
-kv_within (b ∷ bs) (suc n) all h = kv_within bs n (λ k d l. all (suc k) d (omega arith)) (omega arith)
-
-pub kv_positive : (buses : List Bus) (n : ℕ) → All IsBuiltBus buses → n < length buses → pos 1 ≤ℤ kv_of buses n
-kv_positive buses n all h = let k = kv_within buses n all h in omega (arith, ints, k.0)
-
--- the intervals of a network's branches are those of its elements
-source_grounds : (s : ℕ) (study : Study) (n : ℕ) (ss : List Source) → grounds_of s (source_branches study n ss) ≡ map (λ e. ground_ends s (source_law study e)) ss
-source_grounds s study n [] = refl
-source_grounds s study n (e ∷ ss) = ap (λ (l : List GroundEnds). ground_ends s (source_law study e) ∷ l) (source_grounds s study (n + 1) ss)
-
-bank_grounds : (s : ℕ) (study : Study) (n : ℕ) (bs : List Bank) → grounds_of s (bank_branches study n bs) ≡ map (λ e. ground_ends s (bank_law study e)) bs
-bank_grounds s study n [] = refl
-bank_grounds s study n (e ∷ bs) = ap (λ (l : List GroundEnds). ground_ends s (bank_law study e) ∷ l) (bank_grounds s study (n + 1) bs)
-
-grounds_both : (s : ℕ) (xs ys : List Branch) → grounds_of s (xs ++ ys) ≡ grounds_of s xs ++ grounds_of s ys
-grounds_both s [] ys = refl
-grounds_both s (x ∷ xs) ys = ap (λ (l : List GroundEnds). ground_ends s x.law ∷ l) (grounds_both s xs ys)
-
-pub network_grounds : (s : ℕ) (study : Study) → map (λ e. ground_ends s (source_law study e)) study.sources ++ map (λ e. ground_ends s (bank_law study e)) study.banks ≡ grounds_of s (network_of study).branches
-unfolding network_of
-network_grounds s study =
-    sym (grounds_both s (source_branches study 1 study.sources) (bank_branches study (first_bank study) study.banks)
-    ∙ ap (λ (l : List GroundEnds). l ++ grounds_of s (bank_branches study (first_bank study) study.banks)) (source_grounds s study 1 study.sources)
-    ∙ ap (λ (l : List GroundEnds). map (λ e. ground_ends s (source_law study e)) study.sources ++ l) (bank_grounds s study (first_bank study) study.banks))
-
--- the intervals that were pushed one after another
-pub grounds_pushed : (s : ℕ) (study : Study) (a b old : List GroundEnds) → old ≡ [] → a ≡ old ++ map (λ e. ground_ends s (source_law study e)) study.sources
-    → b ≡ a ++ map (λ e. ground_ends s (bank_law study e)) study.banks → b ≡ grounds_of s (network_of study).branches
-grounds_pushed s study a b old none first second =
-    let sources : a ≡ map (λ e. ground_ends s (source_law study e)) study.sources = first ∙ ap (λ (l : List GroundEnds). l ++ map (λ e. ground_ends s (source_law study e)) study.sources) none in
-    second ∙ ap (λ (l : List GroundEnds). l ++ map (λ e. ground_ends s (bank_law study e)) study.banks) sources ∙ network_grounds s study
-
--- ---- one node
--- each branch goes from node 0 to ground
-AtZero : List Branch → Type 0
-AtZero bs = (b : Branch) → Contains bs b → b.taps ≡ ground_tap ∷ []
-
-none_at : AtZero []
-unfolding AtZero
-none_at b k = absurd (omega (arith, k.1))
-
-more_at : (b : Branch) (bs : List Branch) → b.taps ≡ ground_tap ∷ [] → AtZero bs → AtZero (b ∷ bs)
-unfolding AtZero
-more_at b bs e h o k = go k.0 k.1 k.2
-  where
-    go : (i : ℕ) → i < suc (length bs) → slice_index_or (b ∷ bs) i o ≡ o → o.taps ≡ ground_tap ∷ []
-    go zero l q = ap (λ (z : Branch). z.taps) (sym q) ∙ e
-    go (suc i) l q = h o (i, omega arith, q)
-
-taps_zero : (bus : ℕ) → bus < 1 → record { node = bus; ratio = whole (pos 1) } ∷ [] ≡ ground_tap ∷ []
-taps_zero bus h = let e : bus ≡ 0 = omega arith in ap (λ (n : ℕ). record { node = n; ratio = whole (pos 1) } ∷ []) e
-
-first_at : (x : Branch) (xs : List Branch) → AtZero (x ∷ xs) → x.taps ≡ ground_tap ∷ []
-unfolding AtZero
-first_at x xs h = h x (0, omega arith, refl)
-
-rest_at : (x : Branch) (xs : List Branch) → AtZero (x ∷ xs) → AtZero xs
-unfolding AtZero
-rest_at x xs h o k = h o (suc k.0, omega (arith, k.1), k.2)
-
-both_at : (xs ys : List Branch) → AtZero xs → AtZero ys → AtZero (xs ++ ys)
-both_at [] ys h k = k
-both_at (x ∷ xs) ys h k = more_at x (xs ++ ys) (first_at x xs h) (both_at xs ys (rest_at x xs h) k)
-
-sources_at : (study : Study) (n : ℕ) (ss : List Source) → All (IsBuiltSource 1) ss → AtZero (source_branches study n ss)
-sources_at study n [] all = none_at
-sources_at study n (s ∷ ss) all =
-    let first : IsBuiltSource 1 s = all 0 s (omega arith) in
-    more_at _ _ (taps_zero s.bus first.bus) (sources_at study (n + 1) ss (λ k d l. all (suc k) d (omega arith)))
-
-banks_at : (study : Study) (n : ℕ) (bs : List Bank) → All (IsBuiltBank 1) bs → AtZero (bank_branches study n bs)
-banks_at study n [] all = none_at
-banks_at study n (b ∷ bs) all =
-    let first : IsBuiltBank 1 b = all 0 b (omega arith) in
-    more_at _ _ (taps_zero b.bus first.bus) (banks_at study (n + 1) bs (λ k d l. all (suc k) d (omega arith)))
-
-record HasBranch (bs : List Branch) : Type 0 where
-  branch : Branch
-  there : Contains bs branch
-
-some_source : (study : Study) (ss : List Source) (more : List Branch) → length ss ≡ 1 → HasBranch (source_branches study 1 ss ++ more)
-some_source study [] more h = absurd (omega arith)
-some_source study (s ∷ ss) more h = record { branch = to_ground s.bus (source_law study s) 1; there = (0, omega arith, refl) }
-
-pub one_node : (study : Study) → IsBuilt study → IsOneNode (network_of study)
-unfolding network_of AtZero
-one_node study b =
-    let some = some_source study study.sources (bank_branches study (first_bank study) study.banks) b.one_source in
+-- what is asked of a scan is in range
+pub spec_in_range : (study : Study) (scan : ScanItem) → IsLawful study → IsLawfulScan study.model study.buses scan → IsScanSpec (spec_of study scan)
+spec_in_range study scan b s =
+    let kv = kv_within study.buses scan.bus b.buses s.bus in
     record {
-      first = some.branch;
-      has = some.there;
-      each = both_at _ _ (sources_at study 1 study.sources b.sources) (banks_at study (first_bank study) study.banks b.banks);
+      levels = record {
+        threshold_low = s.threshold.0;
+        threshold_high = omega (arith, ints, s.threshold.1);
+        kv_low = kv.0;
+        kv_high = kv.1;
+        mva_low = b.mva.0;
+        mva_high = b.mva.1;
+      };
+      above = omega (arith, ints, s.from.0);
+      band = omega (arith, ints, s.to.1, s.from.0, s.to.0.0);
+      below = omega (arith, ints, s.to.0.1, s.to.0.0);
+      finest = omega (arith, ints, s.finest.0.0);
+      few = omega (arith, ints, s.finest.1, s.finest.0.0, s.from.0, s.to.0.0);
+      locate = omega (arith, ints, s.locate.1, s.finest.0.0, s.locate.0.0);
+      wide = omega (arith, ints, s.locate.0.0, s.locate.0.1);
     }
 
--- ---- the scan
-pub levels_in_range : (study : Study) (scan : ScanItem) → IsBuilt study → IsBuiltScan 1 scan → AreScanLevels (levels_of study scan)
-levels_in_range study scan b s =
-    let inside : scan.bus < length study.buses = omega (arith, s.bus, b.one_bus) in
-    let kv = kv_within study.buses scan.bus b.buses inside in
-    record {
-      threshold_low = s.threshold.0;
-      threshold_high = omega (arith, ints, s.threshold.1);
-      kv_low = kv.0;
-      kv_high = kv.1;
-      mva_low = b.mva.0;
-      mva_high = b.mva.1;
-    }
+band_testable : (spec : ScanSpec) → IsScanSpec spec → IsTestable spec.from spec.to
+band_testable spec s = record { above = s.above; ordered = omega (arith, s.band); below = s.below }
 
--- the band and the widths of a scan
-pub record HasBand (scan : ScanItem) : Type 0 where
-  pub testable : IsTestable (unsigned_abs scan.from) (unsigned_abs scan.to)
-  pub upwards : unsigned_abs scan.from < unsigned_abs scan.to
-  pub split : 1 ≤ unsigned_abs scan.finest
-  pub near : unsigned_abs scan.finest ≤ unsigned_abs scan.locate
-  pub levels : unsigned_abs scan.to - unsigned_abs scan.from ≤ 65536 * unsigned_abs scan.finest
+-- the kinds of elements that are built
+pub built_elements : (study : Study) → IsBuilt study → HasBuiltElements study
+built_elements study b = let form = form_of study b in record { lines = form.lines; transformers = form.transformers; filters = form.filters }
 
-pub band_of : (scan : ScanItem) → IsBuiltScan 1 scan → HasBand scan
-band_of scan s = record {
-  testable = record { above = omega (arith, ints, s.from.0); ordered = omega (arith, ints, s.band, s.from.0, s.to.0); below = omega (arith, ints, s.to.1, s.to.0) };
-  upwards = omega (arith, ints, s.band, s.from.0, s.to.0);
-  split = omega (arith, ints, s.finest.0);
-  near = omega (arith, ints, s.near, s.finest.0, s.locate.0);
-  levels = omega (arith, ints, s.levels, s.finest.0, s.from.0, s.to.0);
-}
+-- ---- live buses
+live_at : (study : Study) (bus : ℕ) (sequence : Sequence) → HasLiveNetworks study → bus < length study.buses → (sequence ≡ Zero → Live (network_of study Zero) bus) → Live (network_of study sequence) bus
+live_at study bus Positive n inside zero = n.buses bus inside
+live_at study bus Zero n inside zero = zero refl
 
-sound : (study : Study) (scan : ScanItem) → IsBuilt study → IsBuiltScan 1 scan → IsSound (scanned_by (levels_of study scan) (network_of study) scan.bus) (test_of study scan)
+-- the bus of a scan is live in the scan's network
+pub scan_live : (study : Study) (scan : ScanItem) → HasLiveNetworks study → IsLawfulScan study.model study.buses scan → IsLiveScan (network_of study Zero) scan → Live (network_of study scan.network) scan.bus
+scan_live study scan n s live = live_at study scan.bus scan.network n s.bus live
+
+-- ---- truth
+sound : (study : Study) (scan : ScanItem) → IsLawful study → IsLawfulScan study.model study.buses scan → CanScan study scan → IsSound (looked_at study scan) (test_of study scan)
 unfolding test_of
-sound study scan b s =
-    let zero_bus : scan.bus ≡ 0 = omega (arith, s.bus) in
-    subst (λ (n : ℕ). IsSound (scanned_by (levels_of study scan) (network_of study) n) (interval_test study.scale (levels_of study scan) (admittance_sum study.scale (grounds_of study.scale (network_of study).branches)))) (sym zero_bus)
-    (test_is_sound study.scale (levels_of study scan) _ (network_of study) 0 (levels_in_range study scan b s) (one_node_reduces study.scale (network_of study) (one_node study b)))
+sound study scan b s can =
+    pair_is_sound study.scale (levels_of (spec_of study scan)) (network_of study scan.network) (network_of study scan.network) scan.bus (order_of (network_of study scan.network) scan.bus) nothing
+    (spec_in_range study scan b s).levels can.ready (omega (arith, ints)) (network_of study scan.network) (between_itself (network_of study scan.network) can.whole)
 
-pub scan_holds : (study : Study) (scan : ScanItem) → IsBuilt study → IsBuiltScan 1 scan → HoldsOfScan study scan
+pub scan_holds : (study : Study) (scan : ScanItem) → IsLawful study → IsLawfulScan study.model study.buses scan → CanScan study scan → HoldsOfScan study scan
 unfolding boxes_in
-scan_holds study scan b s =
-    let band = band_of scan s in
+scan_holds study scan b s can =
+    let r = spec_in_range study scan b s in
     record {
-      covers = boxes_cover (test_of study scan) (widths_of scan) _ _ band.split band.upwards;
-      true_boxes = boxes_are_true _ (test_of study scan) (widths_of scan) _ _ (sound study scan b s) band.split band.near band.upwards band.testable;
-      split_boxes = boxes_come (test_of study scan) (widths_of scan) _ _ band.split band.upwards;
+      covers = boxes_cover (test_of study scan) (widths_of (spec_of study scan)) _ _ r.finest r.band;
+      true_boxes = boxes_are_true _ (test_of study scan) (widths_of (spec_of study scan)) _ _ (sound study scan b s can) r.finest r.locate r.band (band_testable (spec_of study scan) r);
+      split_boxes = boxes_come (test_of study scan) (widths_of (spec_of study scan)) _ _ r.finest r.band;
     }
 
-pub study_holds : (study : Study) (scan : ScanItem) → IsBuilt study → IsBuiltScan 1 scan → study.scans ≡ scan ∷ [] → HoldsOfStudy study
-study_holds study scan b s e = subst (λ (l : List ScanItem). AllByRecursion (HoldsOfScan study) l) (sym e) (scan_holds study scan b s, tt)
+all_hold : (study : Study) (scans : List ScanItem) → IsLawful study → AllByRecursion (IsLawfulScan study.model study.buses) scans → AllByRecursion (CanScan study) scans → AllByRecursion (HoldsOfScan study) scans
+all_hold study [] b all can = tt
+all_hold study (scan ∷ scans) b all can = (scan_holds study scan b all.0 can.0, all_hold study scans b all.1 can.1)
 
-pub scan_texts : (study : Study) (scan : ScanItem) → IsBuilt study → IsBuiltScan 1 scan → AllByRecursion HasText (boxes_in study scan)
+pub study_holds : (study : Study) → IsLawful study → AllByRecursion (IsLawfulScan study.model study.buses) study.scans → AllByRecursion (CanScan study) study.scans → HoldsOfStudy study
+study_holds study b all can = all_hold study study.scans b all can
+
+-- ---- boxes
+small_scale : (scale : ℕ) → (scale ≡ 40) ⊎ (scale ≡ 48) → scale ≤ 48
+small_scale scale (inl e) = omega (arith, e)
+small_scale scale (inr e) = omega (arith, e)
+
+pub scan_texts : (study : Study) (scan : ScanItem) → IsLawful study → IsLawfulScan study.model study.buses scan → AllByRecursion HasText (boxes_in study scan)
 unfolding boxes_in test_of
 scan_texts study scan b s =
-    let band = band_of scan s in
-    let small : study.scale ≤ 48 = omega (arith, b.scale) in
-    boxes_have_text study.scale (levels_of study scan) _ (widths_of scan) _ _ small (levels_in_range study scan b s) band.split band.upwards
+    let r = spec_in_range study scan b s in
+    boxes_have_text study.scale (levels_of (spec_of study scan)) _ (widths_of (spec_of study scan)) _ _ (small_scale study.scale b.scale) r.levels r.finest r.band
 
-pub scan_few : (study : Study) (scan : ScanItem) → IsBuiltScan 1 scan → length (boxes_in study scan) < 4294967295
+pub scan_few : (study : Study) (scan : ScanItem) → IsLawful study → IsLawfulScan study.model study.buses scan → length (boxes_in study scan) < 4294967295
 unfolding boxes_in
-scan_few study scan s =
-    let band = band_of scan s in
-    let few = boxes_few (test_of study scan) (widths_of scan) (unsigned_abs scan.from) (unsigned_abs scan.to) band.split band.upwards in
-    omega (arith, few, band.testable)
+scan_few study scan b s =
+    let r = spec_in_range study scan b s in
+    let few = boxes_few (test_of study scan) (widths_of (spec_of study scan)) (unsigned_abs scan.from) (unsigned_abs scan.to) r.finest r.band in
+    omega (arith, few, r.below)
 
--- the boxes of a walk at scale 40 are those of the scan
-pub boxes_are : (study : Study) (scan : ScanItem) (levels : ScanLevels) (grounds : List GroundEnds) (widths : Widths) (from to : ℕ) → study.scale ≡ 40 → levels ≡ levels_of study scan
-    → grounds ≡ grounds_of 40 (network_of study).branches → widths ≡ widths_of scan → from ≡ unsigned_abs scan.from → to ≡ unsigned_abs scan.to
-    → boxes_of (interval_test 40 levels (admittance_sum 40 grounds)) widths from to ≡ boxes_in study scan
+-- ---- the walk of a scan
+-- a new walk of the network that a scan looks at has the scan's boxes before it
+pub walk_boxes : (scale : ℕ) (study : Study) (scan : ScanItem) (network : Network) (walk : Scanning) → scale ≡ study.scale → network ≡ network_of study scan.network → CanScan study scan
+    → IsScanOf scale network network scan.bus (spec_of study scan) walk → walk.left ≡ boxes_in study scan
 unfolding boxes_in test_of
-boxes_are study scan levels grounds widths from to scale l g w f t =
-    ap (λ (v : ScanLevels). boxes_of (interval_test 40 v (admittance_sum 40 grounds)) widths from to) l
-    ∙ ap (λ (v : List GroundEnds). boxes_of (interval_test 40 (levels_of study scan) (admittance_sum 40 v)) widths from to) g
-    ∙ ap (λ (v : Widths). boxes_of (interval_test 40 (levels_of study scan) (admittance_sum 40 (grounds_of 40 (network_of study).branches))) v from to) w
-    ∙ ap (λ (v : ℕ). boxes_of (interval_test 40 (levels_of study scan) (admittance_sum 40 (grounds_of 40 (network_of study).branches))) (widths_of scan) v to) f
-    ∙ ap (λ (v : ℕ). boxes_of (interval_test 40 (levels_of study scan) (admittance_sum 40 (grounds_of 40 (network_of study).branches))) (widths_of scan) (unsigned_abs scan.from) v) t
-    ∙ ap (λ (v : ℕ). boxes_of (interval_test v (levels_of study scan) (admittance_sum v (grounds_of v (network_of study).branches))) (widths_of scan) (unsigned_abs scan.from) (unsigned_abs scan.to)) (sym scale)
+walk_boxes scale study scan network walk e n can w =
+    let ready : CanAssemble (network_of study scan.network) (network_of study scan.network) scan.bus walk.order = subst (λ (x : Network). CanAssemble x x scan.bus walk.order) n w.ready in
+    let order : walk.order ≡ order_of (network_of study scan.network) scan.bus = order_is (network_of study scan.network) scan.bus walk.order can.whole ready.ordered in
+    let boxes : (s : ℕ) → ScanSpec → Network → Network → List ℕ → List BoxRow = λ s spec low high order. boxes_of (pair_test s (levels_of spec) low high order nothing) (widths_of spec) spec.from spec.to in
+    w.left
+    ∙ ap (λ (x : ScanSpec). boxes scale x walk.low walk.high walk.order) w.same_spec
+    ∙ ap (λ (x : Network). boxes scale (spec_of study scan) x walk.high walk.order) (w.from_low ∙ n)
+    ∙ ap (λ (x : Network). boxes scale (spec_of study scan) (network_of study scan.network) x walk.order) (w.to_high ∙ n)
+    ∙ ap (λ (x : List ℕ). boxes scale (spec_of study scan) (network_of study scan.network) (network_of study scan.network) x) order
+    ∙ ap (λ (x : ℕ). boxes x (spec_of study scan) (network_of study scan.network) (network_of study scan.network) (order_of (network_of study scan.network) scan.bus)) e
+
+-- networks that are within the limits lack nothing but memory
+pub no_memory : (study : Study) (sequence : Sequence) (fault : AddFault) → HasLiveNetworks study → (fault ≢ NoMemory → IsTrue (is_too_large (network_of study sequence))) → fault ≡ NoMemory
+no_memory study sequence NoMemory n h = refl
+no_memory study Positive TooMany n h = let large = h (λ e. cc) in let fits = n.room.positive in absurd (cc)
+no_memory study Zero TooMany n h = let large = h (λ e. cc) in let fits = n.room.zero in absurd (cc)
+
+-- a network that was built and for which a walk was made can be scanned
+pub can_scan : (scale : ℕ) (study : Study) (scan : ScanItem) (network : BuiltNetwork) (walk : Scanning) → exact_network network ≡ network_of study scan.network → IsWholeNetwork network
+    → IsScanOf scale (exact_network network) (exact_network network) scan.bus (spec_of study scan) walk → CanScan study scan
+can_scan scale study scan network walk e w is =
+    let whole : IsWhole (network_of study scan.network) = subst IsWhole e w.exact in
+    let ready : CanAssemble (network_of study scan.network) (network_of study scan.network) scan.bus walk.order = subst (λ (x : Network). CanAssemble x x scan.bus walk.order) e is.ready in
+    let order : walk.order ≡ order_of (network_of study scan.network) scan.bus = order_is (network_of study scan.network) scan.bus walk.order whole ready.ordered in
+    record { whole = whole; ready = subst (λ (o : List ℕ). CanAssemble (network_of study scan.network) (network_of study scan.network) scan.bus o) order ready }

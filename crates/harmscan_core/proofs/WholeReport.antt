@@ -1,4 +1,4 @@
--- The report of a study of one scan.
+-- The report of a study.
 use Rattle.std.proofs.Common.{◌≡◌, ◌∙◌, ℕ, List, [], ◌∷◌, ◌++◌, ap, sym, refl, append_assoc, append-nil}
 use Rattle.scan_report.specs.Rows.{row_text}
 use Rattle.scan_report.specs.declared.rows.Row.{Row}
@@ -6,8 +6,8 @@ use Rattle.scan_report.specs.declared.rows.Row.TheVariants.{End}
 use Rattle.study_model.specs.declared.records.ScanItem.{ScanItem}
 use Rattle.study_model.specs.declared.records.Study.{Study}
 use Rattle.harmscan_core.specs.Scan.{boxes_in}
-use Rattle.harmscan_core.specs.Report.{text_of, box_rows, counted, no_counts, counted_all, head_row, summary_of, scan_rows, status_of, report_status, rows_of_scans, report_text}
-use Rattle.harmscan_core.specs.Texts.{head_text, boxes_text, summary_text, end_text, body_text, scan_text, whole_text}
+use Rattle.harmscan_core.specs.Report.{text_of, box_rows, counted, no_counts, head_row, summary_of, scan_rows, report_status, rows_of_scans, report_text}
+use Rattle.harmscan_core.specs.Texts.{head_text, boxes_text, summary_text, end_text, body_text, scan_text, scans_text, whole_text}
 
 text_of-both : (xs ys : List Row) → text_of (xs ++ ys) ≡ text_of xs ++ text_of ys
 text_of-both [] ys = refl
@@ -23,17 +23,17 @@ scan_rows_text study scan =
     (text_of-both (box_rows 1 (boxes_in study scan)) (summary_of scan (counted no_counts (boxes_in study scan)) ∷ [])
     ∙ ap (λ (t : List ℕ). text_of (box_rows 1 (boxes_in study scan)) ++ t) (one_row (summary_of scan (counted no_counts (boxes_in study scan)))))
 
-pub one_status : (study : Study) (scan : ScanItem) → study.scans ≡ scan ∷ [] → status_of (counted no_counts (boxes_in study scan)) ≡ report_status study
-unfolding report_status
-one_status study scan e = ap (λ (l : List ScanItem). status_of (counted_all study no_counts l)) (sym e)
+scans_rows_text : (study : Study) (scans : List ScanItem) → text_of (rows_of_scans study scans) ≡ scans_text study scans
+scans_rows_text study [] = refl
+scans_rows_text study (scan ∷ scans) =
+    text_of-both (scan_rows study scan) (rows_of_scans study scans)
+    ∙ ap (λ (t : List ℕ). t ++ text_of (rows_of_scans study scans)) (scan_rows_text study scan)
+    ∙ ap (λ (t : List ℕ). scan_text study scan ++ t) (scans_rows_text study scans)
 
-pub one_report : (study : Study) (scan : ScanItem) → study.scans ≡ scan ∷ [] → whole_text study scan (status_of (counted no_counts (boxes_in study scan))) ≡ report_text study
+-- the text that is put is the report's
+pub whole_report : (study : Study) → whole_text study (report_status study) ≡ report_text study
 unfolding report_text whole_text end_text
-one_report study scan e =
-    let status = one_status study scan e in
-    let rows : rows_of_scans study study.scans ≡ scan_rows study scan = ap (rows_of_scans study) e ∙ append-nil (scan_rows study scan) in
-    ap (λ (s : ℕ). scan_text study scan ++ row_text (End s)) status
-    ∙ ap (λ (t : List ℕ). t ++ row_text (End (report_status study))) (sym (scan_rows_text study scan))
-    ∙ ap (λ (t : List ℕ). text_of (scan_rows study scan) ++ t) (sym (one_row (End (report_status study))))
-    ∙ sym (text_of-both (scan_rows study scan) (End (report_status study) ∷ []))
-    ∙ ap (λ (l : List Row). text_of (l ++ End (report_status study) ∷ [])) (sym rows)
+whole_report study =
+    ap (λ (t : List ℕ). t ++ row_text (End (report_status study))) (sym (scans_rows_text study study.scans))
+    ∙ ap (λ (t : List ℕ). text_of (rows_of_scans study study.scans) ++ t) (sym (one_row (End (report_status study))))
+    ∙ sym (text_of-both (rows_of_scans study study.scans) (End (report_status study) ∷ []))

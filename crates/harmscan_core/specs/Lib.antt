@@ -1,10 +1,9 @@
-pub mod Expansion
-pub mod BusAdmittance
-pub mod Grounds
 pub mod Scan
 pub mod Report
 pub mod Texts
+pub mod Plan
 pub mod Claim
+pub mod Accepted
 pub mod Words
 pub mod Lines
 pub mod Outcome

@@ -3,10 +3,11 @@ use Rattle.std.specs.Prelude.{◌≡◌, ◌≢◌, ◌⊎◌, ℕ, ◌<◌, ◌
 use Rattle.harm_io.specs.Shelves.{ShelfState, asked_too, FailsToFetch}
 use Rattle.harm_io.specs.Sinks.{SinkState, took, FailsToWrite, LacksMemory, Puts}
 use Rattle.harm_io.specs.declared.sink.PutFault.{PutFault}
-use Rattle.study_reader.specs.StudyOf.{IsStudy, Refused}
 use Rattle.study_model.specs.declared.records.Study.{Study}
 use Rattle.study_model.specs.declared.fault.StudyFault.{StudyFault}
 use Rattle.study_model.specs.declared.fault.StudyFault.TheVariants as fault
+use Rattle.sequence_network.specs.Refusals.{IsLiveRefusal}
+use Rattle.harmscan_core.specs.Accepted.{IsAccepted, IsRefused}
 use Rattle.harmscan_core.specs.Report.{report_text, report_status}
 use Rattle.harmscan_core.specs.Claim.{HoldsOfStudy}
 use Rattle.harmscan_core.specs.Lines.{line_at}
@@ -17,13 +18,13 @@ use Rattle.harmscan_core.specs.declared.outcome.Outcome.TheVariants as outcome
 abbrev pub longest_file : ℕ
 longest_file = 4194304
 
--- the bytes that were given for a file, no more than a file may have and those that the shelf tells, are a study with this property
+-- the bytes that were given for a file, no more than a file may have and those that the shelf tells, are an accepted study with this property
 pub record GivenStudy (told : Option (List ℕ)) (P : Study → Type 0) : Type 0 where
   pub bytes : List ℕ
   pub given : IfSome told (λ b. bytes ≡ b)
   pub fits : length bytes ≤ longest_file
   pub study : Study
-  pub is : IsStudy bytes study
+  pub is : IsAccepted bytes study
   pub holds : P study
 
 -- they are refused for this fault
@@ -32,7 +33,13 @@ pub record GivenRefusal (told : Option (List ℕ)) (f : StudyFault) : Type 0 whe
   pub given : IfSome told (λ b. bytes ≡ b)
   pub fits : length bytes ≤ longest_file
   pub no_memory : f ≢ fault.NoMemory
-  pub is : Refused bytes f
+  pub is : IsRefused bytes f
+
+-- how a run ends whose study's networks are refused, or that lacks the memory to build them
+abbrev pub RefusesNetworks : Study → Outcome → Type 0
+RefusesNetworks study outcome.NoMemory = Unit {0}
+RefusesNetworks study (outcome.Refused f) = (f ≢ fault.NoMemory) × IsLiveRefusal study f
+RefusesNetworks study _ = ⊥
 
 -- what the reading of a study answers and leaves
 abbrev pub ReadsStudy : List ℕ → ShelfState → ShelfState → Result Study Outcome → Type 0

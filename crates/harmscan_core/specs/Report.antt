@@ -1,5 +1,5 @@
 -- The rows, the text and the status of a study's report.
-use Rattle.std.specs.Prelude.{ℕ, ◌+◌, nat_lt, slice_get, unsigned_abs, if◌then◌else◌, List, [], ◌∷◌, ◌++◌, Option, Some, None}
+use Rattle.std.specs.Prelude.{ℕ, ◌+◌, nat_lt, slice_get, unsigned_abs, false, ◌||◌, if◌then◌else◌, List, [], ◌∷◌, ◌++◌, Option, Some, None}
 use Rattle.scan_report.specs.Rows.{row_text}
 use Rattle.scan_report.specs.declared.boxes.Kind.{Kind}
 use Rattle.scan_report.specs.declared.boxes.Kind.TheVariants.{Cleared, Peak, Undecided}
@@ -15,6 +15,7 @@ use Rattle.study_model.specs.declared.records.Bus.{Bus}
 use Rattle.study_model.specs.declared.records.ScanItem.{ScanItem}
 use Rattle.study_model.specs.declared.records.Study.{Study}
 use Rattle.harmscan_core.specs.declared.counts.Counts.{Counts}
+use Rattle.harmscan_core.specs.declared.counts.Found.{Found}
 use Rattle.harmscan_core.specs.Scan.{boxes_in}
 
 -- the text of rows, one after another
@@ -71,17 +72,24 @@ summary_of scan c = row.Summary scan.name c.boxes c.cleared c.peaks c.undecided 
 unfoldable pub scan_rows : Study → ScanItem → List Row
 scan_rows study scan = head_row study scan ∷ (box_rows 1 (boxes_in study scan) ++ summary_of scan (counted no_counts (boxes_in study scan)) ∷ [])
 
--- the boxes of all scans together
-abbrev pub counted_all : Study → Counts → List ScanItem → Counts
-counted_all study c [] = c
-counted_all study c (scan ∷ scans) = counted_all study (counted c (boxes_in study scan)) scans
+-- a scan more, with these boxes
+abbrev pub found_too : Found → Counts → Found
+found_too f c = record { peak = f.peak || nat_lt 0 c.peaks; undecided = f.undecided || nat_lt 0 c.undecided }
+
+abbrev pub nothing_found : Found
+nothing_found = record { peak = false; undecided = false }
+
+-- what is found in all scans together
+abbrev pub found_in : Study → Found → List ScanItem → Found
+found_in study f [] = f
+found_in study f (scan ∷ scans) = found_in study (found_too f (counted no_counts (boxes_in study scan))) scans
 
 -- 3 where some box is a peak, else 4 where one is undecided, else 0
-abbrev pub status_of : Counts → ℕ
-status_of c = if nat_lt 0 c.peaks then 3 else (if nat_lt 0 c.undecided then 4 else 0)
+abbrev pub status_of : Found → ℕ
+status_of f = if f.peak then 3 else (if f.undecided then 4 else 0)
 
 unfoldable pub report_status : Study → ℕ
-report_status study = status_of (counted_all study no_counts study.scans)
+report_status study = status_of (found_in study nothing_found study.scans)
 
 -- the rows of scans in order
 abbrev pub rows_of_scans : Study → List ScanItem → List Row

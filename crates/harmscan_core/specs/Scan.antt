@@ -1,27 +1,43 @@
 -- The boxes of a scan.
-use Rattle.std.specs.Prelude.{ℕ, unsigned_abs, List, Option}
-use Rattle.complex_interval.specs.Boxes.{Box}
+use Rattle.std.specs.Prelude.{ℕ, unsigned_abs, false, List}
 use Rattle.network_theory.specs.Network.{Network}
-use Rattle.band_subdivision.specs.Boxes.{BoxTest, Widths, boxes_of}
-use Rattle.band_subdivision.specs.IntervalTest.{interval_test}
-use Rattle.band_subdivision.specs.declared.interval_test.ScanLevels.{ScanLevels}
+use Rattle.network_theory.specs.Reach.{is_live}
+use Rattle.admittance_box.specs.Places.{node_order}
+use Rattle.element_expansion.specs.PerUnit.{kv_of}
+use Rattle.sequence_network.specs.Networks.{network_of}
+use Rattle.band_subdivision.specs.Boxes.{BoxTest, boxes_of}
+use Rattle.band_subdivision.specs.PairTest.{pair_test}
+use Rattle.band_subdivision.specs.ScanSpec.{levels_of, widths_of, nothing}
+use Rattle.band_subdivision.specs.declared.scan_spec.ScanSpec.{ScanSpec}
 use Rattle.scan_report.specs.declared.boxes.BoxRow.{BoxRow}
 use Rattle.study_model.specs.declared.records.ScanItem.{ScanItem}
 use Rattle.study_model.specs.declared.records.Study.{Study}
-use Rattle.harmscan_core.specs.Expansion.{kv_of, network_of}
-use Rattle.harmscan_core.specs.BusAdmittance.{admittance_sum, grounds_of}
 
--- what a scan compares an impedance with
-abbrev pub levels_of : Study → ScanItem → ScanLevels
-levels_of study scan = record { threshold = scan.threshold; kv = kv_of study.buses scan.bus; mva = study.mva }
+-- what a scan of a study is asked
+abbrev pub spec_of : Study → ScanItem → ScanSpec
+spec_of study scan = record {
+  from = unsigned_abs scan.from;
+  to = unsigned_abs scan.to;
+  finest = unsigned_abs scan.finest;
+  locate = unsigned_abs scan.locate;
+  threshold = scan.threshold;
+  kv = kv_of study.buses scan.bus;
+  mva = study.mva;
+  both = false;
+}
 
--- the interval test of a study's boxes, by the admittance of its one bus
+-- the live nodes of a network, inner ones before those of buses, and the scanned one last
+abbrev pub order_of : Network → ℕ → List ℕ
+order_of network driven = node_order network (is_live network) driven
+
+-- the interval test of a network that is scanned at a node
+abbrev pub network_test : ℕ → ScanSpec → Network → ℕ → BoxTest
+network_test scale spec network driven = pair_test scale (levels_of spec) network network (order_of network driven) nothing
+
+-- the test of the boxes of a scan
 unfoldable pub test_of : Study → ScanItem → BoxTest
-test_of study scan = interval_test study.scale (levels_of study scan) (admittance_sum study.scale (grounds_of study.scale (network_of study).branches))
-
-abbrev pub widths_of : ScanItem → Widths
-widths_of scan = record { finest = unsigned_abs scan.finest; locate = unsigned_abs scan.locate }
+test_of study scan = network_test study.scale (spec_of study scan) (network_of study scan.network) scan.bus
 
 -- the boxes of a scan
 unfoldable pub boxes_in : Study → ScanItem → List BoxRow
-boxes_in study scan = boxes_of (test_of study scan) (widths_of scan) (unsigned_abs scan.from) (unsigned_abs scan.to)
+boxes_in study scan = boxes_of (test_of study scan) (widths_of (spec_of study scan)) (unsigned_abs scan.from) (unsigned_abs scan.to)

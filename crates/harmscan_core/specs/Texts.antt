@@ -1,5 +1,5 @@
 -- The texts of the parts of a report, which stay closed where they are put together.
-use Rattle.std.specs.Prelude.{ℕ, List, ◌++◌}
+use Rattle.std.specs.Prelude.{ℕ, List, [], ◌∷◌, ◌++◌}
 use Rattle.scan_report.specs.Rows.{row_text}
 use Rattle.scan_report.specs.declared.rows.Row.TheVariants.{End}
 use Rattle.scan_report.specs.declared.boxes.BoxRow.{BoxRow}
@@ -33,6 +33,11 @@ body_text scan boxes = boxes_text 1 boxes ++ summary_text scan (counted no_count
 unfoldable pub scan_text : Study → ScanItem → List ℕ
 scan_text study scan = head_text study scan ++ body_text scan (boxes_in study scan)
 
--- all rows of a scan, and the last row of a report
-unfoldable pub whole_text : Study → ScanItem → ℕ → List ℕ
-whole_text study scan status = scan_text study scan ++ end_text status
+-- all rows of scans in order
+abbrev pub scans_text : Study → List ScanItem → List ℕ
+scans_text study [] = []
+scans_text study (scan ∷ scans) = scan_text study scan ++ scans_text study scans
+
+-- all rows of a study's scans, and the last row of a report
+unfoldable pub whole_text : Study → ℕ → List ℕ
+whole_text study status = scans_text study study.scans ++ end_text status

@@ -1,6 +1,6 @@
 // How many boxes there are, and of which kinds.
 ghost use Rattle.std.specs.Prelude.{◌≡◌, ◌<◌, ◌≤◌};
-ghost use Rattle.harmscan_core.specs.Report.{count_more, no_counts, status_of};
+ghost use Rattle.harmscan_core.specs.Report.{count_more, no_counts, found_too, nothing_found, status_of};
 
 use scan_report::Kind;
 
@@ -38,15 +38,40 @@ pub fn count(counts: Counts, kind: Kind) -> Counts
     counts
 }
 
-/// The status of a report with these boxes: 3 with a peak, else 4 with an undecided box, else 0.
-pub fn status(counts: &Counts) -> u8
-    ensures { result ≡ status_of counts.now }
-{
-    if counts.peaks > 0 {
-        3
-    } else if counts.undecided > 0 {
-        4
-    } else {
-        0
+/// Whether some box of a report is a peak, and whether some box is undecided.
+#[derive(Clone, Copy)]
+pub struct Found {
+    pub peak: bool,
+    pub undecided: bool,
+}
+
+impl Found {
+    /// No boxes yet.
+    pub const NOTHING: Found = Found {
+        peak: false,
+        undecided: false,
+    };
+
+    /// One scan more, with these boxes.
+    pub fn and(self, counts: Counts) -> Found
+        ensures { result ≡ found_too self counts }
+    {
+        Found {
+            peak: self.peak || counts.peaks > 0,
+            undecided: self.undecided || counts.undecided > 0,
+        }
+    }
+
+    /// The status of a report: 3 with a peak, else 4 with an undecided box, else 0.
+    pub fn status(self) -> u8
+        ensures { result ≡ status_of self }
+    {
+        if self.peak {
+            3
+        } else if self.undecided {
+            4
+        } else {
+            0
+        }
     }
 }

@@ -1,20 +1,23 @@
 // From the words to the status.
-ghost use Rattle.std.specs.Prelude.{◌≡◌, ◌↔◌, ◌<◌, ◌≤◌, List, ℕ, length, IfOk, Some, None};
+ghost use Rattle.std.specs.Prelude.{◌≡◌, ◌↔◌, ◌<◌, ◌≤◌, List, ℕ, length, IfOk, IfErr, OnOk, Some, None};
 ghost use Rattle.harm_io.specs.Causes.{Rose};
 ghost use Rattle.harm_io.specs.Memory.{names_of};
 ghost use Rattle.study_model.specs.declared.records.Study.{Study};
 ghost use Rattle.study_reader.specs.Built.{IsBuilt};
+ghost use Rattle.sequence_network.specs.Refusals.{HasLiveNetworks};
 ghost use Rattle.study_model.specs.declared.fault.StudyFault.{StudyFault};
-ghost use Rattle.study_reader.specs.StudyOf.{IsStudy, Refused};
+ghost use Rattle.harmscan_core.specs.Accepted.{IsAccepted, IsRefused};
 ghost use Rattle.harmscan_core.specs.Words.{reading};
-ghost use Rattle.harmscan_core.specs.Outcome.{ReadsStudy, Reports, Happens, HappensFor, Runs, IsComplete, IsWritten, WritesReport, Asks, IsRefusal, StopsWithin, RefusesFor, longest_file};
+ghost use Rattle.harmscan_core.specs.Outcome.{ReadsStudy, RefusesNetworks, Reports, Happens, HappensFor, Runs, IsComplete, IsWritten, WritesReport, Asks, IsRefusal, StopsWithin, RefusesFor, longest_file};
 
 use crate::lines::say;
 use crate::outcome::{Outcome, status};
 use crate::report::put_report;
-use crate::scan::{only_scan, walk_of};
+use crate::scan::plan_of;
 use crate::words::reading;
+use complex_interval::{Enclosure, Span};
 use harm_io::{FetchFault, PutFault, Shelf, Sink};
+use sequence_network::check_live;
 use std::alloc::Global;
 use study_model::{Study, StudyFault};
 use study_reader::read_study;
@@ -22,10 +25,25 @@ use study_reader::read_study;
 /// The longest file that is read, in bytes.
 const LONGEST_FILE: u64 = 4_194_304;
 
-/// The study of a file.
+/// Whether the networks of a study are accepted.
+fn check_networks(alloc: Global, study: &Study) -> Result<(), Outcome>
+    requires { IsBuilt study.now }
+    ensures accepted { OnOk result (HasLiveNetworks study.now) }
+    ensures refused { IfErr result (RefusesNetworks study.now) }
+{
+    match check_live(alloc, study) {
+        Ok(()) => Ok(()),
+        Err(StudyFault::NoMemory) => Err(Outcome::NoMemory),
+        Err(refusal) => Err(Outcome::Refused(refusal)),
+    }
+}
+
+/// The study of a file, where it is accepted.
+#[tactic(auto, using(crate::proofs::Accepted::networks_refused))]
 fn study_from<F: Shelf>(alloc: Global, name: &str, shelf: &mut F) -> Result<Study, Outcome>
     ensures read { ReadsStudy name.now (F.state shelf.old) (F.state shelf.new) result }
     ensures built { IfOk result IsBuilt }
+    ensures networks { IfOk result HasLiveNetworks }
 {
     let bytes = match shelf.fetch(alloc, name, LONGEST_FILE) {
         Ok(bytes) => bytes,
@@ -34,25 +52,42 @@ fn study_from<F: Shelf>(alloc: Global, name: &str, shelf: &mut F) -> Result<Stud
         Err(FetchFault::NoMemory) => return Err(Outcome::NoMemory),
     };
     match read_study(alloc, &bytes) {
-        Ok(study) => Ok(study),
+        Ok(study) => match check_networks(alloc, &study) {
+            Ok(()) => Ok(study),
+            Err(outcome) => Err(outcome),
+        },
         Err(StudyFault::NoMemory) => Err(Outcome::NoMemory),
         Err(fault) => Err(Outcome::Refused(fault)),
     }
 }
 
-/// The report of a study: all walks are made before its first line is put.
-fn report<O: Sink>(alloc: Global, study: &Study, out: &mut O) -> Outcome
-    requires { IsBuilt study.now }
+/// The report of a study at its scale: all walks are made before its first line is put.
+fn report_at<E: Enclosure, O: Sink>(alloc: Global, study: &Study, out: &mut O) -> Outcome
+    requires study { IsBuilt study.now }
+    requires networks { HasLiveNetworks study.now }
+    requires scale { E.SCALE ≡ study.now.scale }
     ensures { Reports study.now (O.state out.old) (O.state out.new) result }
 {
-    let scan = only_scan(study);
-    match walk_of(alloc, study, scan) {
+    match plan_of::<E>(alloc, study) {
         Err(_) => Outcome::NoMemory,
-        Ok(mut walk) => match put_report(study, scan, &mut walk, out) {
+        Ok(mut plan) => match put_report(study, &mut plan, out) {
             Ok(status) => Outcome::Written(status),
             Err(PutFault::Failed) => Outcome::WriteFailed,
             Err(PutFault::NoMemory) => Outcome::NoMemory,
         },
+    }
+}
+
+/// The report of a study.
+fn report<O: Sink>(alloc: Global, study: &Study, out: &mut O) -> Outcome
+    requires study { IsBuilt study.now }
+    requires networks { HasLiveNetworks study.now }
+    ensures { Reports study.now (O.state out.old) (O.state out.new) result }
+{
+    if study.scale == 40 {
+        report_at::<Span<40>, O>(alloc, study, out)
+    } else {
+        report_at::<Span<48>, O>(alloc, study, out)
     }
 }
 
@@ -97,7 +132,7 @@ pub fn run<F: Shelf, O: Sink, E: Sink>(
     ensures report { IsWritten result → WritesReport (reading (names_of words.now)) (F.state shelf.old) (F.state shelf.new) (O.state out.old) (O.state out.new) result }
     // A study that is told and accepted is reported whole where no fault came, unless memory is wanting.
     ensures complete { (name bytes : List ℕ) (study : Study) → reading (names_of words.now) ≡ Some name → (F.state shelf.old).file name ≡ Some bytes
-        → length bytes ≤ longest_file → IsStudy bytes study → (Rose (F.state shelf.old).faults (F.state shelf.new).faults → ⊥)
+        → length bytes ≤ longest_file → IsAccepted bytes study → (Rose (F.state shelf.old).faults (F.state shelf.new).faults → ⊥)
         → (Rose (O.state out.old).faults (O.state out.new).faults → ⊥) → IsComplete result (O.state out.old) (O.state out.new) study }
 
     // No file is asked for but the one that the words name, and that once at most.
@@ -112,7 +147,7 @@ pub fn run<F: Shelf, O: Sink, E: Sink>(
     ensures write_memory { (O.state out.old).refused < (O.state out.new).refused → result ≡ 7 }
     // A study that is told and refused is refused for its fault, and a file that is told to be too large is refused so, where the shelf had no fault, unless memory is wanting.
     ensures refused { (name bytes : List ℕ) (fault : StudyFault) → reading (names_of words.now) ≡ Some name → (F.state shelf.old).file name ≡ Some bytes
-        → length bytes ≤ longest_file → Refused bytes fault → (Rose (F.state shelf.old).faults (F.state shelf.new).faults → ⊥)
+        → length bytes ≤ longest_file → IsRefused bytes fault → (Rose (F.state shelf.old).faults (F.state shelf.new).faults → ⊥)
         → RefusesFor (Outcome.Refused fault) result (O.state out.old) (O.state out.new) (E.state err.old) (E.state err.new) }
     ensures too_large { (name bytes : List ℕ) → reading (names_of words.now) ≡ Some name → (F.state shelf.old).file name ≡ Some bytes
         → longest_file < length bytes → (Rose (F.state shelf.old).faults (F.state shelf.new).faults → ⊥)

@@ -4,18 +4,23 @@ ghost use Rattle.std.specs.List.{AllByRecursion};
 ghost use Rattle.band_subdivision.specs.BoxText.{HasText};
 ghost use Rattle.harm_io.specs.Sinks.{Writes};
 ghost use Rattle.scan_report.specs.Rows.{row_text};
-ghost use Rattle.study_reader.specs.Built.{IsBuiltScan};
+ghost use Rattle.study_model.specs.Lawful.{IsLawfulScan};
+ghost use Rattle.study_reader.specs.Built.{IsBuilt};
 ghost use Rattle.harmscan_core.specs.Scan.{boxes_in};
-ghost use Rattle.harmscan_core.specs.Texts.{head_text, boxes_text, summary_text, end_text, body_text, scan_text, whole_text};
-ghost use Rattle.harmscan_core.specs.Report.{row_of, counted, no_counts, net_of, status_of};
+ghost use Rattle.harmscan_core.specs.Texts.{head_text, boxes_text, summary_text, end_text, body_text, scan_text, scans_text, whole_text};
+ghost use Rattle.harmscan_core.specs.Plan.{IsPlan};
+ghost use Rattle.harmscan_core.specs.Report.{row_of, counted, no_counts, net_of, found_in, nothing_found, report_status};
 
-use crate::counts::{Counts, count, status};
-use crate::scan::ScanWalk;
-use crate::values::micro;
+use crate::counts::{Counts, Found, count};
+use crate::plan::PlannedScan;
+use crate::scan::micro;
+use band_subdivision::Scan;
+use complex_interval::Enclosure;
 use harm_io::{PutFault, Sink};
 use scan_report::{
     BoxRow, BoxWord, Kind, LineBuf, NetWord, Row, box_row, end_row, scan_row, summary_row,
 };
+use std::collections::VecDeque;
 use study_model::{ScanItem, Sequence, Study};
 
 /// Puts a line.
@@ -59,8 +64,8 @@ fn put_box<O: Sink>(
 }
 
 /// Puts the rows of all boxes of a walk, and counts them.
-fn put_boxes<O: Sink>(
-    walk: &mut ScanWalk,
+fn put_boxes<E: Enclosure, O: Sink>(
+    walk: &mut Scan<E>,
     line: &mut LineBuf,
     out: &mut O,
 ) -> Result<Counts, PutFault>
@@ -140,8 +145,7 @@ fn put_head<O: Sink>(
     line: &mut LineBuf,
     out: &mut O,
 ) -> Result<(), PutFault>
-    requires bus { scan.now.bus < length study.now.buses }
-    requires scan { IsBuiltScan 1 scan.now }
+    requires scan { IsLawfulScan study.now.model study.now.buses scan.now }
     ensures { Writes (head_text study.now scan.now) (O.state out.old) (O.state out.new) result }
 {
     let row = Row::Scan {
@@ -159,8 +163,8 @@ fn put_head<O: Sink>(
 
 /// Puts the rows of the boxes and a scan's last row.
 #[tactic(auto, unfolding(crate::specs::Texts::body_text), using(harm_io::proofs::Writing::second_piece))]
-fn put_body<O: Sink>(
-    walk: &mut ScanWalk,
+fn put_body<E: Enclosure, O: Sink>(
+    walk: &mut Scan<E>,
     scan: &ScanItem,
     line: &mut LineBuf,
     out: &mut O,
@@ -178,15 +182,14 @@ fn put_body<O: Sink>(
 
 /// Puts all rows of a scan.
 #[tactic(auto, unfolding(crate::specs::Texts::scan_text), using(harm_io::proofs::Writing::second_piece))]
-fn put_scan<O: Sink>(
+fn put_scan<E: Enclosure, O: Sink>(
     study: &Study,
     scan: &ScanItem,
-    walk: &mut ScanWalk,
+    walk: &mut Scan<E>,
     line: &mut LineBuf,
     out: &mut O,
 ) -> Result<Counts, PutFault>
-    requires bus { scan.now.bus < length study.now.buses }
-    requires scan { IsBuiltScan 1 scan.now }
+    requires scan { IsLawfulScan study.now.model study.now.buses scan.now }
     requires boxes { walk.old.left ≡ boxes_in study.now scan.now }
     requires text { AllByRecursion HasText walk.old.left }
     requires few { length walk.old.left < 4294967295 }
@@ -199,25 +202,44 @@ fn put_scan<O: Sink>(
     }
 }
 
-/// Puts the report of a study with this one scan, and answers the status.
-#[tactic(auto, unfolding(crate::specs::Texts::whole_text), using(harm_io::proofs::Writing::second_piece))]
-pub fn put_report<O: Sink>(
+/// Puts all rows of the scans of a plan, and answers what is found in them.
+fn put_scans<E: Enclosure, O: Sink>(
     study: &Study,
-    scan: &ScanItem,
-    walk: &mut ScanWalk,
+    plan: &mut VecDeque<PlannedScan<E>>,
+    line: &mut LineBuf,
+    out: &mut O,
+) -> Result<Found, PutFault>
+    requires study { IsBuilt study.now }
+    requires plan { IsPlan study.now plan.old.items }
+    ensures wrote { Writes (scans_text study.now study.now.scans) (O.state out.old) (O.state out.new) result }
+    ensures found { IfOk result (λ f. f ≡ found_in study.now nothing_found study.now.scans) }
+{
+    let mut found = Found::NOTHING;
+    'scans: while let Some(planned) = plan.pop_front() {
+        let mut walk = planned.walk;
+        match put_scan(study, &planned.scan, &mut walk, line, out) {
+            Ok(counts) => found = found.and(counts),
+            Err(fault) => return Err(fault),
+        }
+    }
+    Ok(found)
+}
+
+/// Puts the report of a study by the plan of its scans, and answers the status.
+#[tactic(auto, unfolding(crate::specs::Texts::whole_text, crate::specs::Report::report_status), using(harm_io::proofs::Writing::second_piece))]
+pub fn put_report<E: Enclosure, O: Sink>(
+    study: &Study,
+    plan: &mut VecDeque<PlannedScan<E>>,
     out: &mut O,
 ) -> Result<u8, PutFault>
-    requires bus { scan.now.bus < length study.now.buses }
-    requires scan { IsBuiltScan 1 scan.now }
-    requires boxes { walk.old.left ≡ boxes_in study.now scan.now }
-    requires text { AllByRecursion HasText walk.old.left }
-    requires few { length walk.old.left < 4294967295 }
-    ensures wrote { Writes (whole_text study.now scan.now (status_of (counted no_counts (boxes_in study.now scan.now)))) (O.state out.old) (O.state out.new) result }
-    ensures status { IfOk result (λ s. s ≡ status_of (counted no_counts (boxes_in study.now scan.now))) }
+    requires study { IsBuilt study.now }
+    requires plan { IsPlan study.now plan.old.items }
+    ensures wrote { Writes (whole_text study.now (report_status study.now)) (O.state out.old) (O.state out.new) result }
+    ensures status { IfOk result (λ s. s ≡ report_status study.now) }
 {
     let mut line = LineBuf::new();
-    match put_scan(study, scan, walk, &mut line, out) {
-        Ok(counts) => put_end(status(&counts), &mut line, out),
+    match put_scans(study, plan, &mut line, out) {
+        Ok(found) => put_end(found.status(), &mut line, out),
         Err(fault) => Err(fault),
     }
 }

@@ -1,90 +1,95 @@
-// The walk of a scan.
-ghost use Rattle.std.specs.Prelude.{◌≡◌, [], ◌∷◌, ◌++◌, map, IfOk, OnOk, List, All, length, unsigned_abs};
-ghost use Rattle.std.specs.Vec.{vec_len};
-ghost use Rattle.study_reader.specs.Built.{IsBuilt, IsBuiltScan};
-ghost use Rattle.harmscan_core.specs.BusAdmittance.{ground_ends, grounds_of};
-ghost use Rattle.harmscan_core.specs.Grounds.{ground_of};
-ghost use Rattle.harmscan_core.specs.Expansion.{source_law, bank_law, network_of};
-ghost use Rattle.harmscan_core.specs.Scan.{boxes_in, levels_of};
+// The scans of a study: their networks, and the boxes of their bands.
+ghost use Rattle.std.specs.Prelude.{◌≡◌, ◌≤ℤ◌, pos, IfOk, IfErr, OnOk, unsigned_abs};
+ghost use Rattle.network_theory.specs.Live.{Live};
+ghost use Rattle.study_model.specs.Lawful.{IsLawfulScan};
+ghost use Rattle.study_reader.specs.Built.{IsBuilt};
+ghost use Rattle.net_branch.specs.declared.fault.AddFault.TheVariants.{NoMemory};
+ghost use Rattle.sequence_network.specs.Networks.{network_of};
+ghost use Rattle.sequence_network.specs.Refusals.{HasLiveNetworks};
+ghost use Rattle.harmscan_core.specs.Scan.{spec_of, boxes_in};
+ghost use Rattle.harmscan_core.specs.Plan.{CanScan, IsPlan};
 
-use crate::bus_admittance::{BusAdmittance, GroundBranch};
-use crate::values::{bank_branch, kv, micro, source_branch};
-use band_subdivision::{IntervalTest, ScanLevels, Walk};
-use complex_interval::{Enclosure, Span};
-use std::alloc::{AllocError, Global};
+use crate::plan::PlannedScan;
+use band_subdivision::{Scan, ScanSpec};
+use complex_interval::Enclosure;
+use element_expansion::kv;
+use fixed_decimal::Decimal;
+use net_branch::{AddFault, NodeId};
+use sequence_network::build_sequence;
+use std::alloc::Global;
+use std::collections::VecDeque;
 use study_model::{ScanItem, Study};
 
-/// The walk of a scan at scale 40.
-pub type ScanWalk = Walk<IntervalTest<BusAdmittance<Span<40>>>>;
-
-/// The branches of the study's sources, after those that are there.
-fn push_sources<E: Enclosure>(
-    study: &Study,
-    branches: &mut Vec<GroundBranch<E>>,
-) -> Result<(), AllocError>
-    requires { IsBuilt study.now }
-    ensures { OnOk result (map (ground_of E.ends) branches.new.items ≡ map (ground_of E.ends) branches.old.items ++ map (λ s. ground_ends E.SCALE (source_law study.now s)) study.now.sources) }
+/// Micro-orders, as a whole number.
+pub fn micro(order: Decimal) -> u32
+    requires low { pos 0 ≤ℤ order }
+    requires high { order ≤ℤ pos 100000000 }
+    ensures { result ≡ unsigned_abs order }
 {
-    for source in study.sources.as_slice() {
-        branches.push(source_branch(study, source))?;
-    }
-    Ok(())
+    order.millionths as u32
 }
 
-/// The branches of the study's banks, after those that are there.
-fn push_banks<E: Enclosure>(
-    study: &Study,
-    branches: &mut Vec<GroundBranch<E>>,
-) -> Result<(), AllocError>
-    requires { IsBuilt study.now }
-    ensures { OnOk result (map (ground_of E.ends) branches.new.items ≡ map (ground_of E.ends) branches.old.items ++ map (λ b. ground_ends E.SCALE (bank_law study.now b)) study.now.banks) }
+/// What a scan is asked.
+fn spec_of(study: &Study, scan: &ScanItem) -> ScanSpec
+    requires { IsLawfulScan study.now.model study.now.buses scan.now }
+    ensures { result ≡ spec_of study.now scan.now }
 {
-    for bank in study.banks.as_slice() {
-        branches.push(bank_branch(study, bank))?;
-    }
-    Ok(())
-}
-
-/// The branches at the study's one bus.
-fn bus_admittance<E: Enclosure>(
-    alloc: Global,
-    study: &Study,
-) -> Result<BusAdmittance<E>, AllocError>
-    requires { IsBuilt study.now }
-    ensures { IfOk result (λ b. map (ground_of E.ends) b.branches.items ≡ grounds_of E.SCALE (network_of study.now).branches) }
-{
-    let mut branches = Vec::new(alloc);
-    push_sources(study, &mut branches)?;
-    push_banks(study, &mut branches)?;
-    Ok(BusAdmittance { branches })
-}
-
-/// The one scan of a study.
-pub fn only_scan(study: &Study) -> &ScanItem
-    requires { IsBuilt study.now }
-    ensures only { study.now.scans ≡ result.now ∷ [] }
-    ensures built { IsBuiltScan 1 result.now }
-{
-    &study.scans.as_slice()[0]
-}
-
-/// The walk of a scan: all memory that it takes is taken here.
-pub fn walk_of(alloc: Global, study: &Study, scan: &ScanItem) -> Result<ScanWalk, AllocError>
-    requires study { IsBuilt study.now }
-    requires scan { IsBuiltScan 1 scan.now }
-    ensures { IfOk result (λ w. w.left ≡ boxes_in study.now scan.now) }
-{
-    let reduction = bus_admittance(alloc, study)?;
-    let levels = ScanLevels {
+    ScanSpec {
+        from: micro(scan.from),
+        to: micro(scan.to),
+        finest: micro(scan.finest),
+        locate: micro(scan.locate),
         threshold: scan.threshold,
         kv: kv(study, scan.bus),
         mva: study.mva,
+        both: false,
+    }
+}
+
+/// The walk of a scan over its band, at the scale of the study. All memory that it takes is taken here.
+pub fn walk_of<E: Enclosure>(
+    alloc: Global,
+    study: &Study,
+    scan: &ScanItem,
+) -> Result<Scan<E>, AddFault>
+    requires study { IsBuilt study.now }
+    requires networks { HasLiveNetworks study.now }
+    requires scan { IsLawfulScan study.now.model study.now.buses scan.now }
+    requires live { Live (network_of study.now scan.now.network) scan.now.bus }
+    requires scale { E.SCALE ≡ study.now.scale }
+    ensures can { OnOk result (CanScan study.now scan.now) }
+    ensures boxes { IfOk result (λ walk. walk.left ≡ boxes_in study.now scan.now) }
+    ensures fault { IfErr result (λ fault. fault ≡ NoMemory) }
+{
+    let network = match build_sequence(alloc, study, scan.network) {
+        Ok(network) => network,
+        Err(fault) => return Err(fault),
     };
-    Ok(Walk::new(
-        IntervalTest::new(reduction, levels),
-        micro(scan.from),
-        micro(scan.to),
-        micro(scan.finest),
-        micro(scan.locate),
-    ))
+    let driven = NodeId { number: scan.bus };
+    match Scan::new(alloc, &network, driven, spec_of(study, scan)) {
+        Ok(walk) => Ok(walk),
+        Err(_) => Err(AddFault::NoMemory),
+    }
+}
+
+/// All scans of a study in order, each with its walk. All memory that the walks take is taken here.
+pub fn plan_of<E: Enclosure>(
+    alloc: Global,
+    study: &Study,
+) -> Result<VecDeque<PlannedScan<E>>, AddFault>
+    requires study { IsBuilt study.now }
+    requires networks { HasLiveNetworks study.now }
+    requires scale { E.SCALE ≡ study.now.scale }
+    ensures plan { IfOk result (λ plan. IsPlan study.now plan.items) }
+    ensures fault { IfErr result (λ fault. fault ≡ NoMemory) }
+{
+    let mut plan = VecDeque::new(alloc);
+    for scan in study.scans.as_slice() {
+        let walk = walk_of(alloc, study, scan)?;
+        match plan.push_back(PlannedScan { scan: *scan, walk }) {
+            Ok(()) => {}
+            Err(_) => return Err(AddFault::NoMemory),
+        }
+    }
+    Ok(plan)
 }

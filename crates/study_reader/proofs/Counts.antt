@@ -3,7 +3,7 @@ use Rattle.std.proofs.Common.{◌≡◌, List, [], ◌∷◌, refl, length, arit
 use Rattle.toml.specs.Data.{Data}
 use Rattle.toml.specs.View.{items_view}
 use Rattle.toml.specs.declared.value.Value.{Value}
-use Rattle.study_reader.specs.StudyOf.{count_items, entries_of}
+use Rattle.study_reader.specs.Sections.{count_items, entries_of}
 
 -- there are as many items as values
 pub count_of_items : (vs : List Value) → count_items (items_view vs) ≡ length vs

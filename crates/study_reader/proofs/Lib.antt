@@ -1,2 +1,6 @@
 pub mod Counts
+pub mod Rules
+pub mod Fresh
+pub mod Parts
 pub mod Refusals
+pub mod Forms

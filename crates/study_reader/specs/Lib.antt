@@ -1,5 +1,13 @@
 pub mod Checks
+pub mod Header
+pub mod Sections
+pub mod Groups
 pub mod Entries
+pub mod Loads
+pub mod Branches
+pub mod Points
 pub mod EntryNames
-pub mod StudyOf
+pub mod Lawful
 pub mod Built
+pub mod StudyOf
+pub mod Form

@@ -1,163 +1,166 @@
 -- The study that a document stands for, or its first fault.
-use Rattle.std.specs.Prelude.{◌≡◌, ℕ, pos, ◌+◌, true, false, nat_le, List, [], ◌∷◌, ◌++◌, Option, Some, None}
+use Rattle.std.specs.Prelude.{◌≡◌, ℕ, true, false, List, [], ◌∷◌, ◌++◌, map, Option, Some, None}
 use Rattle.std.specs.Str.{IsUtf8}
-use Rattle.toml.specs.Data.{Data, Items, no_items, item, Members, get, string, integer, float, boolean, datetime, array, table}
+use Rattle.toml.specs.Data.{Data, Members, table}
 use Rattle.toml.specs.Parse.{parse_document}
-use Rattle.study_model.specs.Words.{section_text}
-use Rattle.study_model.specs.declared.fault.Place.{Place}
+use Rattle.study_model.specs.declared.limits.TheConstants.{MAX_BUSES, MAX_ELEMENTS, MAX_SCANS, MAX_POINTS}
 use Rattle.study_model.specs.declared.fault.Section.{Section}
 use Rattle.study_model.specs.declared.fault.Section.TheVariants as section
-use Rattle.study_model.specs.declared.fault.Key.{Key}
 use Rattle.study_model.specs.declared.fault.Key.TheVariants as key
 use Rattle.study_model.specs.declared.fault.StudyFault.{StudyFault}
-use Rattle.study_model.specs.declared.fault.StudyFault.TheVariants.{NotToml, MissingKey, WrongKind, UnknownKey, TooMany, NotBuilt}
-use Rattle.study_model.specs.declared.words.StudyModel.TheVariants.{Sequence}
-use Rattle.study_model.specs.declared.words.Method.TheVariants.{Elimination}
+use Rattle.study_model.specs.declared.fault.StudyFault.TheVariants.{NotToml, UnknownKey}
+use Rattle.study_model.specs.declared.records.Source.{Source}
+use Rattle.study_model.specs.declared.records.Line.{Line}
+use Rattle.study_model.specs.declared.records.Transformer.{Transformer}
+use Rattle.study_model.specs.declared.records.Load.{Load}
+use Rattle.study_model.specs.declared.records.Bank.{Bank}
+use Rattle.study_model.specs.declared.records.Filter.{Filter}
 use Rattle.study_model.specs.declared.records.Study.{Study}
-use Rattle.study_reader.specs.Checks.{are_sections, first_fault, place_of, unless, name_value, version_fault, decimal_fault, decimal_value, table_fault, unknown_fault}
+use Rattle.study_reader.specs.Checks.{first_fault, place_of, unless}
+use Rattle.study_reader.specs.Header.{study_section_fault, study_section_value}
+use Rattle.study_reader.specs.Sections.{section_in, are_sections, section_fault, section_value, section_names}
+use Rattle.study_reader.specs.Entries.{bus_entry_fault, bus_entry, source_entry_fault, source_entry, bank_entry_fault, bank_entry, filter_entry_fault, filter_entry, scan_entry_fault, scan_entry}
+use Rattle.study_reader.specs.Branches.{line_entry_fault, line_entry, transformer_entry_fault, transformer_entry}
+use Rattle.study_reader.specs.Loads.{load_entry_fault, load_entry}
+use Rattle.study_reader.specs.Points.{point_entry_fault, point_entry}
+use Rattle.study_reader.specs.Built.{unbuilt}
 use Rattle.study_reader.specs.declared.arrays.Occurrence.{Occurrence}
-use Rattle.study_reader.specs.Entries.{at, bus_entry_fault, bus_entry, source_entry_fault, source_entry, bank_entry_fault, bank_entry, scan_entry_fault, scan_entry}
+use Rattle.study_reader.specs.declared.context.Context.{Context}
+use Rattle.study_reader.specs.declared.context.Element.{Element}
+use Rattle.study_reader.specs.declared.study.Plant.{Plant}
 
--- the value at the word of a section
-abbrev pub section_in : Section → Data → Option Data
-section_in at document = get (section_text at) document
+-- a section that may be absent, of at most so many entries
+abbrev pub at_most : Section → ℕ → Occurrence
+at_most at most = record { section = at; optional = true; least = 0; most = most }
 
-abbrev pub count_items : Items → ℕ
-count_items no_items = 0
-count_items (item d ds) = count_items ds + 1
+-- the section of buses, which has to be there
+abbrev pub some_buses : Occurrence
+some_buses = record { section = section.Bus; optional = false; least = 1; most = MAX_BUSES }
 
--- a count between two limits
-abbrev pub count_fault : Place → ℕ → ℕ → ℕ → Option StudyFault
-count_fault place least most count = first_fault (unless (nat_le least count) (MissingKey place) ∷ unless (nat_le count most) (TooMany place) ∷ [])
+-- what the buses are read beside: the model of the study
+abbrev pub before_buses : Data → Context
+before_buses document = record { model = (study_section_value (section_in section.Study document)).model; buses = []; elements = [] }
 
--- the kind and the count of an array that is there
-abbrev pub array_check : Occurrence → Data → Option StudyFault
-array_check o (array ds) = count_fault (place_of o.section 0 key.Nothing) o.least o.most (count_items ds)
-array_check o (string s) = Some (WrongKind (place_of o.section 0 key.Nothing))
-array_check o (integer z) = Some (WrongKind (place_of o.section 0 key.Nothing))
-array_check o (float x) = Some (WrongKind (place_of o.section 0 key.Nothing))
-array_check o (boolean b) = Some (WrongKind (place_of o.section 0 key.Nothing))
-array_check o (datetime t) = Some (WrongKind (place_of o.section 0 key.Nothing))
-array_check o (table ms) = Some (WrongKind (place_of o.section 0 key.Nothing))
+-- what the sections after the buses are read beside
+unfoldable pub context_of : Data → Context
+context_of document = record { model = (study_section_value (section_in section.Study document)).model; buses = section_value (bus_entry (before_buses document)) section.Bus document; elements = [] }
 
--- the presence, the kind and the count of an array
-abbrev pub array_fault : Occurrence → Option Data → Option StudyFault
-array_fault o None = unless o.optional (MissingKey (place_of o.section 0 key.Nothing))
-array_fault o (Some value) = array_check o value
+-- the checks of the elements in the order of their sections, beside the names before them
+unfoldable pub plant_fault : Context → List (List ℕ) → Data → Option StudyFault
+plant_fault context buses document =
+    let sources = buses ++ section_names section.Source document in
+    let lines = sources ++ section_names section.Line document in
+    let transformers = lines ++ section_names section.Transformer document in
+    let loads = transformers ++ section_names section.Load document in
+    let banks = loads ++ section_names section.Bank document in
+    first_fault (
+    section_fault source_entry_fault (at_most section.Source MAX_ELEMENTS) context buses document ∷
+    section_fault line_entry_fault (at_most section.Line MAX_ELEMENTS) context sources document ∷
+    section_fault transformer_entry_fault (at_most section.Transformer MAX_ELEMENTS) context lines document ∷
+    section_fault load_entry_fault (at_most section.Load MAX_ELEMENTS) context transformers document ∷
+    section_fault bank_entry_fault (at_most section.Bank MAX_ELEMENTS) context loads document ∷
+    section_fault filter_entry_fault (at_most section.Filter MAX_ELEMENTS) context banks document ∷ [])
 
--- the items of an array
-abbrev pub items_in : Option Data → Items
-items_in (Some (array ds)) = ds
-items_in _ = no_items
+-- the names of buses and elements, in the order of their sections
+unfoldable pub plant_names : List (List ℕ) → Data → List (List ℕ)
+plant_names buses document = buses ++ section_names section.Source document ++ section_names section.Line document
+    ++ section_names section.Transformer document ++ section_names section.Load document
+    ++ section_names section.Bank document ++ section_names section.Filter document
 
--- the faults of entries one after another, each beside the names before it
-abbrev pub entries_fault : (List (List ℕ) → List (List ℕ) → ℕ → Data → Option StudyFault) → List (List ℕ) → List (List ℕ) → ℕ → Items → Option StudyFault
-entries_fault fault earlier buses n no_items = None
-entries_fault fault earlier buses n (item d ds) =
-    first_fault (fault earlier buses n d ∷ entries_fault fault (earlier ++ name_value (at key.Name d) ∷ []) buses (n + 1) ds ∷ [])
+unfoldable pub plant_value : Context → Data → Plant
+plant_value context document = record {
+  sources = section_value (source_entry context) section.Source document;
+  lines = section_value (line_entry context) section.Line document;
+  transformers = section_value (transformer_entry context) section.Transformer document;
+  loads = section_value (load_entry context) section.Load document;
+  banks = section_value (bank_entry context) section.Bank document;
+  filters = section_value (filter_entry context) section.Filter document;
+}
 
--- the records of entries
-abbrev pub entries_of : {A : Type 0} → (Data → A) → Items → List A
-entries_of value no_items = []
-entries_of value (item d ds) = value d ∷ entries_of value ds
+-- the elements of a plant in the order of their sections
+abbrev pub at_bus : List ℕ → ℕ → Element
+at_bus name bus = record { name = name; from = bus; to = bus }
 
--- the names of entries
-abbrev pub names_of : Items → List (List ℕ)
-names_of ds = entries_of (λ d. name_value (at key.Name d)) ds
+unfoldable pub source_elements : Plant → List Element
+source_elements plant = map (λ (e : Source). at_bus e.name e.bus) plant.sources
 
--- the faults of a section: its array's, and then its entries'
-unfoldable pub section_fault : (List (List ℕ) → List (List ℕ) → ℕ → Data → Option StudyFault) → Occurrence → List (List ℕ) → List (List ℕ) → Data → Option StudyFault
-section_fault fault o earlier buses document = first_fault (
-    array_fault o (section_in o.section document) ∷
-    entries_fault fault earlier buses 1 (items_in (section_in o.section document)) ∷ [])
+unfoldable pub line_elements : Plant → List Element
+line_elements plant = map (λ (e : Line). record { name = e.name; from = e.from; to = e.to }) plant.lines
 
--- the records of a section
-unfoldable pub section_value : {A : Type 0} → (Data → A) → Section → Data → List A
-section_value value at document = entries_of value (items_in (section_in at document))
+unfoldable pub transformer_elements : Plant → List Element
+transformer_elements plant = map (λ (e : Transformer). record { name = e.name; from = e.from; to = e.to }) plant.transformers
 
--- the names of a section
-unfoldable pub section_names : Section → Data → List (List ℕ)
-section_names at document = names_of (items_in (section_in at document))
+unfoldable pub load_elements : Plant → List Element
+load_elements plant = map (λ (e : Load). at_bus e.name e.bus) plant.loads
 
--- a section of exactly one entry, and one that is absent or has exactly one
-abbrev pub one_of : Section → Occurrence
-one_of at = record { section = at; optional = false; least = 1; most = 1 }
+unfoldable pub bank_elements : Plant → List Element
+bank_elements plant = map (λ (e : Bank). at_bus e.name e.bus) plant.banks
 
-abbrev pub one_or_none_of : Section → Occurrence
-one_or_none_of at = record { section = at; optional = true; least = 1; most = 1 }
+unfoldable pub filter_elements : Plant → List Element
+filter_elements plant = map (λ (e : Filter). at_bus e.name e.bus) plant.filters
 
--- the one table of the study as a whole
-abbrev pub study_keys : List Key
-study_keys = key.Version ∷ key.Mva ∷ []
+unfoldable pub elements_of : Plant → List Element
+elements_of plant = source_elements plant ++ line_elements plant ++ transformer_elements plant ++ load_elements plant ++ bank_elements plant ++ filter_elements plant
 
-unfoldable pub study_section_fault : Option Data → Option StudyFault
-study_section_fault None = Some (MissingKey (place_of section.Study 0 key.Nothing))
-study_section_fault (Some entry) = first_fault (
-    table_fault (place_of section.Study 0 key.Nothing) entry ∷
-    unknown_fault (place_of section.Study 1 key.Nothing) study_keys entry ∷
-    version_fault (place_of section.Study 1 key.Version) (at key.Version entry) ∷
-    decimal_fault (place_of section.Study 1 key.Mva) 1000 10000000000 (at key.Mva entry) ∷ [])
-
--- its base power, in millionths of an MVA
-unfoldable pub mva_of : Option Data → ℕ
-mva_of None = 0
-mva_of (Some entry) = decimal_value 0 (at key.Mva entry)
+-- what the points are read beside
+unfoldable pub with_elements : Context → Plant → Context
+with_elements context plant = record { model = context.model; buses = context.buses; elements = elements_of plant }
 
 -- the checks of the sections in order
 unfoldable pub sections_fault : Data → Option StudyFault
 sections_fault document =
     let buses = section_names section.Bus document in
-    let sources = section_names section.Source document in
-    let banks = section_names section.Bank document in
     first_fault (
     study_section_fault (section_in section.Study document) ∷
-    section_fault (λ earlier _ n d. bus_entry_fault earlier n d) (one_of section.Bus) [] [] document ∷
-    section_fault source_entry_fault (one_of section.Source) buses buses document ∷
-    section_fault bank_entry_fault (one_or_none_of section.Bank) (buses ++ sources) buses document ∷
-    section_fault scan_entry_fault (one_of section.Scan) (buses ++ sources ++ banks) buses document ∷ [])
+    section_fault bus_entry_fault some_buses (before_buses document) [] document ∷
+    plant_fault (context_of document) buses document ∷
+    section_fault scan_entry_fault (at_most section.Scan MAX_SCANS) (context_of document) (plant_names buses document) document ∷
+    section_fault point_entry_fault (at_most section.Pcc MAX_POINTS) (with_elements (context_of document) (plant_value (context_of document) document))
+    (plant_names buses document ++ section_names section.Scan document) document ∷ [])
 
 -- the sections that a study may have
-abbrev pub built_sections : List Section
-built_sections = section.Study ∷ section.Bus ∷ section.Source ∷ section.Bank ∷ section.Scan ∷ []
-
--- the place of a study as a whole
-abbrev pub top_place : Place
-top_place = place_of section.Top 0 key.Nothing
-
--- all checks of a document
-unfoldable pub study_fault : Members → Option StudyFault
-study_fault ms = first_fault (unless (are_sections built_sections ms) (UnknownKey top_place) ∷ sections_fault (table ms) ∷ [])
+abbrev pub all_sections : List Section
+all_sections = section.Study ∷ section.Bus ∷ section.Source ∷ section.Line ∷ section.Transformer ∷ section.Load ∷ section.Bank ∷ section.Filter ∷ section.Scan ∷ section.Pcc ∷ []
 
 -- the study of a document without a fault
 unfoldable pub study_value : Data → Study
 study_value document =
-    let buses = section_names section.Bus document in record {
+    let header = study_section_value (section_in section.Study document) in
+    let context = context_of document in
+    let plant = plant_value context document in record {
       version = 1;
-      mva = pos (mva_of (section_in section.Study document));
-      hz = pos 50000000;
-      model = Sequence;
-      scale = 40;
-      method = Elimination;
-      root3 = pos 1732051;
-      buses = section_value (λ d. bus_entry d) section.Bus document;
-      sources = section_value (λ d. source_entry buses d) section.Source document;
-      lines = [];
-      transformers = [];
-      loads = [];
-      banks = section_value (λ d. bank_entry buses d) section.Bank document;
-      filters = [];
-      scans = section_value (λ d. scan_entry buses d) section.Scan document;
-      points = [];
+      mva = header.mva;
+      hz = header.hz;
+      model = header.model;
+      scale = header.scale;
+      method = header.method;
+      root3 = header.root3;
+      buses = context.buses;
+      sources = plant.sources;
+      lines = plant.lines;
+      transformers = plant.transformers;
+      loads = plant.loads;
+      banks = plant.banks;
+      filters = plant.filters;
+      scans = section_value (scan_entry context) section.Scan document;
+      points = section_value (point_entry (with_elements context plant)) section.Pcc document;
     }
+
+-- all checks of a document: its sections' words, its sections in order, and the forms that aren't built
+unfoldable pub study_fault : Members → Option StudyFault
+study_fault ms = first_fault (
+    unless (are_sections all_sections ms) (UnknownKey (place_of section.Top 0 key.Nothing)) ∷
+    sections_fault (table ms) ∷
+    unbuilt (study_value (table ms)) ∷ [])
 
 -- the table that the grammar gives the bytes
 abbrev pub HasTable : List ℕ → Members → Type 0
 HasTable bytes ms = IsUtf8 bytes × (parse_document bytes ≡ Some ms)
 
--- why bytes are refused: they have no table, or a table with a fault
+-- why bytes are refused: they have no table, or a table whose first fault this is
 pub data Refused (bytes : List ℕ) : StudyFault → Type 0 where
   no_table : ((ms : Members) → HasTable bytes ms → ⊥) → Refused bytes NotToml
-  not_built : (ms : Members) (fault : StudyFault) → HasTable bytes ms → study_fault ms ≡ Some fault → Refused bytes (NotBuilt top_place)
+  first : (ms : Members) (fault : StudyFault) → HasTable bytes ms → study_fault ms ≡ Some fault → Refused bytes fault
 
 -- the study that the bytes are
 pub record IsStudy (bytes : List ℕ) (study : Study) : Type 0 where

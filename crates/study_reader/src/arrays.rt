@@ -3,8 +3,8 @@ ghost use Rattle.std.specs.Prelude.{◌≡◌, ◌≤◌, false, Some, length, o
 ghost use Rattle.toml.specs.Data.{get};
 ghost use Rattle.toml.specs.View.{view, items_view, table_view};
 ghost use Rattle.study_model.specs.Words.{section_text};
-ghost use Rattle.study_reader.specs.Checks.{Reads, ReadsBy, place_of, is_section, are_sections};
-ghost use Rattle.study_reader.specs.StudyOf.{section_in, array_check, array_fault, items_in, count_fault, count_items};
+ghost use Rattle.study_reader.specs.Checks.{Reads, ReadsBy, place_of};
+ghost use Rattle.study_reader.specs.Sections.{is_section, are_sections, section_in, array_check, array_fault, items_in, count_fault, count_items};
 ghost use Rattle.study_model.specs.declared.fault.Key.TheVariants.{Nothing};
 
 use study_model::{Key, Place, Section, StudyFault};

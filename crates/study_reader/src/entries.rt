@@ -1,160 +1,291 @@
-// The entries of a study's sections.
-ghost use Rattle.std.specs.Prelude.{◌≡◌, ◌<◌, ◌^◌, length, IfOk};
+// The entries of buses, sources, banks, filters and scans.
+ghost use Rattle.std.specs.Prelude.{◌≡◌, ◌<◌, ◌≤ℤ◌, ◌<ℤ◌, ◌-ℤ◌, ◌*ℤ◌, ◌^◌, pos, length, IfOk, OnOk};
 ghost use Rattle.toml.specs.View.{view};
-ghost use Rattle.study_reader.specs.Built.{IsBuiltBus, IsBuiltSource, IsBuiltBank, IsBuiltScan};
+ghost use Rattle.study_model.specs.Range.{IsIn};
+ghost use Rattle.study_model.specs.Rules.{IsScanned};
+ghost use Rattle.study_model.specs.Lawful.{IsLawfulBus, IsLawfulSource, IsLawfulBank, IsLawfulFilter, IsLawfulScan};
+ghost use Rattle.study_model.specs.declared.range.TheConstants.Range.{BAND, ABOVE_ZERO, FINEST, LOCATE};
 ghost use Rattle.study_reader.specs.Checks.{Reads};
-ghost use Rattle.study_reader.specs.Entries.{bus_entry_fault, bus_entry as bus_of, source_entry_fault, source_entry as source_of, bank_entry_fault, bank_entry as bank_of, scan_entry_fault, scan_entry as scan_of};
+ghost use Rattle.study_reader.specs.Entries.{bus_entry_fault, bus_entry as bus_of, source_entry_fault, source_entry as source_of, bank_entry_fault, bank_entry as bank_of, filter_entry_fault, filter_entry as filter_of, scanned_fault, scanned, upwards_fault, widths_fault, locate_fault, band_fault, band, scan_entry_fault, scan_entry as scan_of};
+ghost use Rattle.study_reader.specs.Lawful.{IsFresh};
 
-use crate::keys::{bus, decimal, entry_keys, name, not_reserved, of_millionths, optional_decimal};
-use study_model::{Bank, Bus, Key, Name, Place, ScanItem, Section, Sequence, Source, StudyFault};
+use crate::context::Context;
+use crate::decimals::{decimal, decimal_or};
+use crate::groups::{impedance_of, in_phases, skin_of, wiring_of, zero_sequence_of};
+use crate::keys::{bus, entry_keys, key_of, name, not_reserved, not_stray};
+use crate::words::word;
+use fixed_decimal::Decimal;
+use study_model::{
+    Bank, Bus, Filter, FilterKind, Key, MAX_WIDTHS, Name, Phase, Place, Range, ScanItem, Sequence,
+    Source, StudyFault, StudyModel,
+};
 use toml::Value;
 
-/// The greatest decimal, in millionths.
-const GREATEST: u64 = 999_999_999_999;
-
 #[tactic(auto, unfolding(crate::specs::Entries::bus_entry_fault, crate::specs::Entries::bus_entry))]
-pub(crate) fn bus_entry(entry: &Value, number: u32, earlier: &[Name]) -> Result<Bus, StudyFault>
+pub(crate) fn bus_entry(
+    entry: &Value,
+    place: Place,
+    earlier: &[Name],
+    context: &Context,
+) -> Result<Bus, StudyFault>
     requires { length earlier.now < 2 ^ 32 }
-    ensures lawful { IfOk result IsBuiltBus }
-    ensures read { Reads result (bus_entry_fault earlier.now number (view entry.now)) (bus_of (view entry.now)) }
+    ensures lawful { IfOk result IsLawfulBus }
+    ensures fresh { IfOk result (λ e. IsFresh earlier.now e.name) }
+    ensures read { Reads result (bus_entry_fault context.now earlier.now place (view entry.now)) (bus_of context.now (view entry.now)) }
 {
-    let at = |key: Key| Place {
-        section: Section::Bus,
-        entry: number,
-        key,
-    };
     let keys = [Key::Name, Key::Kv];
-    entry_keys(entry, at(Key::Nothing), at(Key::Nothing), &keys)?;
-    let name = name(entry, at(Key::Name), earlier)?;
-    let kv = decimal(entry, at(Key::Kv), 100_000, 2_000_000_000)?;
-    Ok(Bus {
-        name,
-        kv: of_millionths(kv),
-    })
+    entry_keys(entry, place, place, &keys)?;
+    let name = name(entry, place, earlier)?;
+    let kv = decimal(entry, place, Key::Kv, Range::BUS_KV)?;
+    Ok(Bus { name, kv })
 }
 
 #[tactic(auto, unfolding(crate::specs::Entries::source_entry_fault, crate::specs::Entries::source_entry))]
 pub(crate) fn source_entry(
     entry: &Value,
-    number: u32,
+    place: Place,
     earlier: &[Name],
-    buses: &[Name],
+    context: &Context,
 ) -> Result<Source, StudyFault>
     requires earlier { length earlier.now < 2 ^ 32 }
-    requires buses { length buses.now < 2 ^ 32 }
-    ensures lawful { IfOk result (IsBuiltSource (length buses.now)) }
-    ensures read { Reads result (source_entry_fault earlier.now buses.now number (view entry.now)) (source_of buses.now (view entry.now)) }
+    requires buses { length context.now.buses < 2 ^ 32 }
+    ensures lawful { IfOk result (IsLawfulSource context.now.buses) }
+    ensures fresh { IfOk result (λ e. IsFresh earlier.now e.name) }
+    ensures read { Reads result (source_entry_fault context.now earlier.now place (view entry.now)) (source_of context.now (view entry.now)) }
 {
-    let at = |key: Key| Place {
-        section: Section::Source,
-        entry: number,
-        key,
-    };
-    let keys = [Key::Name, Key::Bus, Key::R, Key::X];
-    entry_keys(entry, at(Key::Nothing), at(Key::Nothing), &keys)?;
-    let name = name(entry, at(Key::Name), earlier)?;
-    let bus = bus(entry, at(Key::Bus), buses)?;
-    let r = decimal(entry, at(Key::R), 0, GREATEST)?;
-    let x = decimal(entry, at(Key::X), 0, GREATEST)?;
-    if r == 0 && x == 0 {
-        return Err(StudyFault::OutOfRange(at(Key::X)));
-    }
+    let keys = [
+        Key::Name,
+        Key::Bus,
+        Key::R,
+        Key::X,
+        Key::R0,
+        Key::X0,
+        Key::SkinK,
+        Key::SkinM,
+    ];
+    entry_keys(entry, place, place, &keys)?;
+    let name = name(entry, place, earlier)?;
+    let bus = bus(entry, place, Key::Bus, context.buses.as_slice())?;
+    let impedance = impedance_of(entry, place)?;
+    let zero = zero_sequence_of(entry, place, false)?;
+    let skin = skin_of(entry, place)?;
     Ok(Source {
         name,
         bus,
-        r: of_millionths(r),
-        x: of_millionths(x),
-        r0: None,
-        x0: None,
-        skin_k: of_millionths(0),
-        skin_m: of_millionths(1_000_000),
+        r: impedance.r,
+        x: impedance.x,
+        r0: zero.r0,
+        x0: zero.x0,
+        skin_k: skin.k,
+        skin_m: skin.m,
     })
 }
 
 #[tactic(auto, unfolding(crate::specs::Entries::bank_entry_fault, crate::specs::Entries::bank_entry))]
 pub(crate) fn bank_entry(
     entry: &Value,
-    number: u32,
+    place: Place,
     earlier: &[Name],
-    buses: &[Name],
+    context: &Context,
 ) -> Result<Bank, StudyFault>
     requires earlier { length earlier.now < 2 ^ 32 }
-    requires buses { length buses.now < 2 ^ 32 }
-    ensures lawful { IfOk result (IsBuiltBank (length buses.now)) }
-    ensures read { Reads result (bank_entry_fault earlier.now buses.now number (view entry.now)) (bank_of buses.now (view entry.now)) }
+    requires buses { length context.now.buses < 2 ^ 32 }
+    ensures lawful { IfOk result (IsLawfulBank context.now.model context.now.buses) }
+    ensures fresh { IfOk result (λ e. IsFresh earlier.now e.name) }
+    ensures read { Reads result (bank_entry_fault context.now earlier.now place (view entry.now)) (bank_of context.now (view entry.now)) }
 {
-    let at = |key: Key| Place {
-        section: Section::Bank,
-        entry: number,
-        key,
-    };
-    let keys = [Key::Name, Key::Bus, Key::Q];
-    entry_keys(entry, at(Key::Nothing), at(Key::Nothing), &keys)?;
-    let name = name(entry, at(Key::Name), earlier)?;
-    let bus = bus(entry, at(Key::Bus), buses)?;
-    let q = decimal(entry, at(Key::Q), 1, GREATEST)?;
+    let keys = [Key::Name, Key::Bus, Key::Q, Key::Grounded, Key::Phase];
+    entry_keys(entry, place, place, &keys)?;
+    let name = name(entry, place, earlier)?;
+    let bus = bus(entry, place, Key::Bus, context.buses.as_slice())?;
+    let q = decimal(entry, place, Key::Q, Range::ABOVE_ZERO)?;
+    let wiring = wiring_of(entry, place, context.model)?;
     Ok(Bank {
         name,
         bus,
-        q: of_millionths(q),
-        grounded: false,
-        phase: None,
+        q,
+        grounded: wiring.grounded,
+        phase: wiring.phase,
+    })
+}
+
+/// What a scan sees: one of the two sequence networks, or a phase.
+#[derive(Clone, Copy)]
+pub(crate) struct Scanned {
+    pub(crate) network: Sequence,
+    pub(crate) phase: Option<Phase>,
+}
+
+#[tactic(auto, unfolding(crate::specs::Entries::scanned_fault), using(crate::proofs::Rules::scanned_rule))]
+fn scanned_of(entry: &Value, place: Place, model: StudyModel) -> Result<Scanned, StudyFault>
+    ensures lawful { IfOk result (λ scanned. IsScanned model scanned.network scanned.phase) }
+    ensures read { Reads result (scanned_fault model place (view entry.now)) (scanned (view entry.now)) }
+{
+    let phases = in_phases(model);
+    not_stray(entry, place, Key::Network, !phases)?;
+    let network = word::<Sequence>(entry, place, Key::Network, false)?;
+    not_stray(entry, place, Key::Phase, phases)?;
+    let phase = word::<Phase>(entry, place, Key::Phase, phases)?;
+    Ok(Scanned {
+        network: network.unwrap_or(Sequence::Positive),
+        phase,
+    })
+}
+
+#[tactic(auto, unfolding(crate::specs::Entries::upwards_fault))]
+fn upwards(place: Place, from: Decimal, to: Decimal) -> Result<(), StudyFault>
+    ensures upwards { OnOk result (from <ℤ to) }
+    ensures read { Reads result (upwards_fault place from to) tt }
+{
+    if to.millionths <= from.millionths {
+        return Err(StudyFault::BadBand(key_of(place, Key::To)));
+    }
+    Ok(())
+}
+
+#[tactic(auto, unfolding(crate::specs::Entries::widths_fault))]
+fn few_widths(place: Place, from: Decimal, to: Decimal, finest: Decimal) -> Result<(), StudyFault>
+    requires from { IsIn BAND from }
+    requires to { IsIn BAND to }
+    requires finest { IsIn FINEST finest }
+    ensures few { OnOk result ((to -ℤ from) ≤ℤ (pos MAX_WIDTHS *ℤ finest)) }
+    ensures read { Reads result (widths_fault place from to finest) tt }
+{
+    if to.millionths - from.millionths > i64::from(MAX_WIDTHS) * finest.millionths {
+        return Err(StudyFault::TooFine(key_of(place, Key::Finest)));
+    }
+    Ok(())
+}
+
+#[tactic(auto, unfolding(crate::specs::Entries::locate_fault))]
+fn no_finer(place: Place, finest: Decimal, locate: Decimal) -> Result<(), StudyFault>
+    ensures near { OnOk result (finest ≤ℤ locate) }
+    ensures read { Reads result (locate_fault place finest locate) tt }
+{
+    if locate.millionths < finest.millionths {
+        return Err(StudyFault::BadBand(key_of(place, Key::Locate)));
+    }
+    Ok(())
+}
+
+/// The band of a scan in orders, its threshold in ohms, and its widths in orders.
+#[derive(Clone, Copy)]
+pub(crate) struct Band {
+    pub(crate) from: Decimal,
+    pub(crate) to: Decimal,
+    pub(crate) threshold: Decimal,
+    pub(crate) finest: Decimal,
+    pub(crate) locate: Decimal,
+}
+
+#[tactic(auto, unfolding(crate::specs::Entries::band_fault))]
+fn band_of(entry: &Value, place: Place) -> Result<Band, StudyFault>
+    ensures from { IfOk result (λ band. IsIn BAND band.from) }
+    ensures to { IfOk result (λ band. IsIn BAND band.to × (band.from <ℤ band.to)) }
+    ensures threshold { IfOk result (λ band. IsIn ABOVE_ZERO band.threshold) }
+    ensures finest { IfOk result (λ band. IsIn FINEST band.finest × ((band.to -ℤ band.from) ≤ℤ (pos MAX_WIDTHS *ℤ band.finest))) }
+    ensures locate { IfOk result (λ band. IsIn LOCATE band.locate × (band.finest ≤ℤ band.locate)) }
+    ensures read { Reads result (band_fault place (view entry.now)) (band (view entry.now)) }
+{
+    let from = decimal(entry, place, Key::From, Range::BAND)?;
+    let to = decimal(entry, place, Key::To, Range::BAND)?;
+    upwards(place, from, to)?;
+    let threshold = decimal(entry, place, Key::Threshold, Range::ABOVE_ZERO)?;
+    let finest = decimal(entry, place, Key::Finest, Range::FINEST)?;
+    few_widths(place, from, to, finest)?;
+    let locate = decimal_or(entry, place, Key::Locate, Range::LOCATE, finest)?;
+    no_finer(place, finest, locate)?;
+    Ok(Band {
+        from,
+        to,
+        threshold,
+        finest,
+        locate,
     })
 }
 
 #[tactic(auto, unfolding(crate::specs::Entries::scan_entry_fault, crate::specs::Entries::scan_entry))]
 pub(crate) fn scan_entry(
     entry: &Value,
-    number: u32,
+    place: Place,
     earlier: &[Name],
-    buses: &[Name],
+    context: &Context,
 ) -> Result<ScanItem, StudyFault>
     requires earlier { length earlier.now < 2 ^ 32 }
-    requires buses { length buses.now < 2 ^ 32 }
-    ensures lawful { IfOk result (IsBuiltScan (length buses.now)) }
-    ensures read { Reads result (scan_entry_fault earlier.now buses.now number (view entry.now)) (scan_of buses.now (view entry.now)) }
+    requires buses { length context.now.buses < 2 ^ 32 }
+    ensures lawful { IfOk result (IsLawfulScan context.now.model context.now.buses) }
+    ensures fresh { IfOk result (λ e. IsFresh earlier.now e.name) }
+    ensures read { Reads result (scan_entry_fault context.now earlier.now place (view entry.now)) (scan_of context.now (view entry.now)) }
 {
-    let at = |key: Key| Place {
-        section: Section::Scan,
-        entry: number,
-        key,
-    };
     let keys = [
         Key::Name,
         Key::Bus,
+        Key::Network,
+        Key::Phase,
         Key::From,
         Key::To,
         Key::Threshold,
         Key::Finest,
         Key::Locate,
     ];
-    entry_keys(entry, at(Key::Nothing), at(Key::Nothing), &keys)?;
-    not_reserved(entry, at(Key::Name), "limits")?;
-    let name = name(entry, at(Key::Name), earlier)?;
-    let bus = bus(entry, at(Key::Bus), buses)?;
-    let from = decimal(entry, at(Key::From), 100_000, 100_000_000)?;
-    let to = decimal(entry, at(Key::To), 100_000, 100_000_000)?;
-    if to <= from {
-        return Err(StudyFault::BadBand(at(Key::To)));
-    }
-    let threshold = decimal(entry, at(Key::Threshold), 1, GREATEST)?;
-    let finest = decimal(entry, at(Key::Finest), 1, 100_000_000)?;
-    if to - from > 65_536 * finest {
-        return Err(StudyFault::TooFine(at(Key::Finest)));
-    }
-    let locate = optional_decimal(entry, at(Key::Locate), 0, 100_000_000, finest)?;
-    if locate < finest {
-        return Err(StudyFault::BadBand(at(Key::Locate)));
-    }
+    entry_keys(entry, place, place, &keys)?;
+    not_reserved(entry, place, "limits")?;
+    let name = name(entry, place, earlier)?;
+    let bus = bus(entry, place, Key::Bus, context.buses.as_slice())?;
+    let scanned = scanned_of(entry, place, context.model)?;
+    let band = band_of(entry, place)?;
     Ok(ScanItem {
         name,
         bus,
-        network: Sequence::Positive,
-        phase: None,
-        from: of_millionths(from),
-        to: of_millionths(to),
-        threshold: of_millionths(threshold),
-        finest: of_millionths(finest),
-        locate: of_millionths(locate),
+        network: scanned.network,
+        phase: scanned.phase,
+        from: band.from,
+        to: band.to,
+        threshold: band.threshold,
+        finest: band.finest,
+        locate: band.locate,
+    })
+}
+
+#[tactic(auto, unfolding(crate::specs::Entries::filter_entry_fault, crate::specs::Entries::filter_entry))]
+pub(crate) fn filter_entry(
+    entry: &Value,
+    place: Place,
+    earlier: &[Name],
+    context: &Context,
+) -> Result<Filter, StudyFault>
+    requires earlier { length earlier.now < 2 ^ 32 }
+    requires buses { length context.now.buses < 2 ^ 32 }
+    ensures lawful { IfOk result (IsLawfulFilter context.now.model context.now.buses) }
+    ensures fresh { IfOk result (λ e. IsFresh earlier.now e.name) }
+    ensures read { Reads result (filter_entry_fault context.now earlier.now place (view entry.now)) (filter_of context.now (view entry.now)) }
+{
+    let keys = [
+        Key::Name,
+        Key::Bus,
+        Key::Kind,
+        Key::Q,
+        Key::Order,
+        Key::Quality,
+        Key::Grounded,
+        Key::Phase,
+    ];
+    entry_keys(entry, place, place, &keys)?;
+    let name = name(entry, place, earlier)?;
+    let bus = bus(entry, place, Key::Bus, context.buses.as_slice())?;
+    let kind = word::<FilterKind>(entry, place, Key::Kind, true)?;
+    let q = decimal(entry, place, Key::Q, Range::ABOVE_ZERO)?;
+    let order = decimal(entry, place, Key::Order, Range::TUNED_ORDER)?;
+    let quality = decimal(entry, place, Key::Quality, Range::QUALITY)?;
+    let wiring = wiring_of(entry, place, context.model)?;
+    Ok(Filter {
+        name,
+        bus,
+        kind: kind.unwrap_or(FilterKind::Single),
+        q,
+        order,
+        quality,
+        grounded: wiring.grounded,
+        phase: wiring.phase,
     })
 }

@@ -2,10 +2,21 @@
 #![tactic(auto)]
 
 mod arrays;
+mod branches;
+mod built;
+mod context;
+mod decimals;
+mod elements;
 mod entries;
+mod entry;
+mod groups;
+mod header;
 mod keys;
+mod loads;
+mod points;
 mod study;
 #[cfg(test)]
 mod tests;
+mod words;
 
 pub use study::read_study;

@@ -1,306 +1,275 @@
 // A whole study.
-ghost use Rattle.std.specs.Prelude.{◌≡◌, ◌≢◌, ◌<◌, ◌+◌, ◌^◌, ◌≤◌, ◌∷◌, [], ◌++◌, List, ℕ, Option, false, length, All, IfOk, IfErr, OnOk};
-ghost use Rattle.toml.specs.Data.{Data, table as table_data};
+ghost use Rattle.std.specs.Prelude.{◌≡◌, ◌≢◌, ◌<◌, ◌+◌, ◌^◌, ◌≤◌, ◌∷◌, [], ◌++◌, None, false, length, map, All, AllPairs, IfOk, IfErr, OnOk};
+ghost use Rattle.toml.specs.Data.{table as table_data};
 ghost use Rattle.toml.specs.View.{view, items_view, table_view};
-ghost use Rattle.study_model.specs.declared.fault.Key.TheVariants.{Name as name_key};
-ghost use Rattle.study_model.specs.declared.fault.Section.TheVariants.{Study as study_word};
-ghost use Rattle.study_model.specs.declared.fault.StudyFault.{StudyFault};
-ghost use Rattle.study_model.specs.declared.fault.StudyFault.TheVariants.{NoMemory, NotBuilt};
-ghost use Rattle.study_reader.specs.Built.{IsWithin, IsBuiltBus, IsBuiltSource, IsBuiltBank, IsBuiltScan, IsBuilt};
-ghost use Rattle.study_reader.specs.Checks.{Reads, name_value};
-ghost use Rattle.study_reader.specs.Entries.{at, bus_entry_fault, bus_entry, source_entry_fault, source_entry, bank_entry_fault, bank_entry, scan_entry_fault, scan_entry};
-ghost use Rattle.study_reader.specs.StudyOf.{section_in, entries_fault, entries_of, names_of, section_fault, section_value, section_names, one_of, one_or_none_of, study_section_fault, mva_of, sections_fault, study_fault, study_value, top_place, IsStudy, Refused};
+ghost use Rattle.study_model.specs.declared.fault.StudyFault.TheVariants.{NoMemory};
+ghost use Rattle.study_model.specs.Lawful.{IsLawful};
+ghost use Rattle.study_reader.specs.Built.{IsBuilt, unbuilt};
+ghost use Rattle.study_reader.specs.Lawful.{IsFresh, IsLawfulPlant, names_in};
+ghost use Rattle.study_reader.specs.Checks.{Reads, first_fault, name_value};
+ghost use Rattle.study_reader.specs.Sections.{entries_fault, entries_of, section_fault, section_value, section_names};
+ghost use Rattle.study_reader.specs.StudyOf.{at_most, some_buses, plant_fault, plant_names, plant_value, with_elements, elements_of, sections_fault, study_fault, study_value, IsStudy, Refused};
 
-use crate::arrays::{Occurrence, are_sections, array, section};
-use crate::keys::{decimal, entry_keys, of_millionths, version};
+use crate::arrays::{Occurrence, are_sections, array};
+use crate::built::is_built;
+use crate::context::Context;
+use crate::elements::elements_of;
+use crate::entry::Entry;
+use crate::header::study_section;
 use sqlite_items::Items;
 use std::alloc::Global;
 use study_model::{
-    Bank, Bus, Key, Method, Name, Place, ScanItem, Section, Source, Study, StudyFault, StudyModel,
+    Bank, Bus, Filter, Key, Line, Load, MAX_BUSES, MAX_ELEMENTS, MAX_POINTS, MAX_SCANS, Name, Pcc,
+    Place, ScanItem, Section, Source, Study, StudyFault, Transformer,
 };
 use toml::{Table, Value};
 
-/// An entry of an array, which is read beside the names before it and the names of the buses.
-trait Entry: Copy {
-    ghost fault: { List (List ℕ) → List (List ℕ) → ℕ → Data → Option StudyFault };
-
-    ghost value: { List (List ℕ) → Data → Self };
-
-    ghost name_in: { Self → List ℕ };
-
-    ghost lawful: { ℕ → Self → Type 0 };
-
-    fn read(
-        entry: &Value,
-        number: u32,
-        earlier: &[Name],
-        buses: &[Name],
-    ) -> Result<Self, StudyFault>
-        requires earlier { length earlier.now < 2 ^ 32 }
-        requires buses { length buses.now < 2 ^ 32 }
-        ensures lawful { IfOk result (lawful (length buses.now)) }
-        ensures read { Reads result (fault earlier.now buses.now number (view entry.now)) (value buses.now (view entry.now)) };
-
-    fn name(&self) -> Name
-        ensures { result ≡ name_in self.now };
-
-    ghost named: { (buses : List (List ℕ)) (d : Data) → name_in (value buses d) ≡ name_value (at name_key d) };
-}
-
-impl Entry for Bus {
-    ghost use Rattle.study_reader.specs.EntryNames.{bus_named};
-
-    ghost fault = { λ earlier buses n d. bus_entry_fault earlier n d };
-
-    ghost value = { λ buses d. bus_entry d };
-
-    ghost name_in = { λ b. b.name };
-
-    ghost lawful = { λ buses b. IsBuiltBus b };
-
-    ghost named = { λ buses d. bus_named d };
-
-    fn read(
-        entry: &Value,
-        number: u32,
-        earlier: &[Name],
-        _buses: &[Name],
-    ) -> Result<Self, StudyFault> {
-        crate::entries::bus_entry(entry, number, earlier)
+/// Keeps an entry and its name behind those before.
+#[tactic(auto, using(crate::proofs::Fresh::distinct_push))]
+fn keep<E: Entry>(names: &mut Vec<Name>, made: &mut Vec<E>, entry: E) -> Result<(), StudyFault>
+    requires distinct { AllPairs ◌≢◌ names.old.items }
+    requires fresh { IsFresh names.old.items (E.name_in entry) }
+    ensures names { OnOk result (names.new.items ≡ names.old.items ++ E.name_in entry ∷ []) }
+    ensures made { OnOk result (made.new.items ≡ made.old.items ++ entry ∷ []) }
+    ensures distinct { OnOk result (AllPairs ◌≢◌ names.new.items) }
+    ensures memory { IfErr result (λ fault. fault ≡ NoMemory) }
+    ensures few { length names.new.items ≤ length names.old.items + 1 }
+{
+    if names.push(entry.name()).is_err() || made.push(entry).is_err() {
+        return Err(StudyFault::NoMemory);
     }
-
-    fn name(&self) -> Name {
-        self.name
-    }
-}
-
-impl Entry for Source {
-    ghost use Rattle.study_reader.specs.EntryNames.{source_named};
-
-    ghost fault = { source_entry_fault };
-
-    ghost value = { source_entry };
-
-    ghost name_in = { λ s. s.name };
-
-    ghost lawful = { IsBuiltSource };
-
-    ghost named = { source_named };
-
-    fn read(
-        entry: &Value,
-        number: u32,
-        earlier: &[Name],
-        buses: &[Name],
-    ) -> Result<Self, StudyFault> {
-        crate::entries::source_entry(entry, number, earlier, buses)
-    }
-
-    fn name(&self) -> Name {
-        self.name
-    }
-}
-
-impl Entry for Bank {
-    ghost use Rattle.study_reader.specs.EntryNames.{bank_named};
-
-    ghost fault = { bank_entry_fault };
-
-    ghost value = { bank_entry };
-
-    ghost name_in = { λ b. b.name };
-
-    ghost lawful = { IsBuiltBank };
-
-    ghost named = { bank_named };
-
-    fn read(
-        entry: &Value,
-        number: u32,
-        earlier: &[Name],
-        buses: &[Name],
-    ) -> Result<Self, StudyFault> {
-        crate::entries::bank_entry(entry, number, earlier, buses)
-    }
-
-    fn name(&self) -> Name {
-        self.name
-    }
-}
-
-impl Entry for ScanItem {
-    ghost use Rattle.study_reader.specs.EntryNames.{scan_named};
-
-    ghost fault = { scan_entry_fault };
-
-    ghost value = { scan_entry };
-
-    ghost name_in = { λ s. s.name };
-
-    ghost lawful = { IsBuiltScan };
-
-    ghost named = { scan_named };
-
-    fn read(
-        entry: &Value,
-        number: u32,
-        earlier: &[Name],
-        buses: &[Name],
-    ) -> Result<Self, StudyFault> {
-        crate::entries::scan_entry(entry, number, earlier, buses)
-    }
-
-    fn name(&self) -> Name {
-        self.name
-    }
+    Ok(())
 }
 
 /// The entries of an array in order, whose names are added to the names before them.
+#[tactic(auto, using(crate::proofs::Fresh::named_push))]
 fn entries<E: Entry>(
     alloc: Global,
     values: &[Value],
+    section: Section,
+    context: &Context,
     names: &mut Vec<Name>,
-    buses: &[Name],
 ) -> Result<Items<E>, StudyFault>
     requires few { length values.now ≤ 1000 }
     requires names { length names.old.items ≤ 10000 }
-    requires buses { length buses.now < 2 ^ 32 }
-    ensures read { Reads result (entries_fault E.fault names.old.items buses.now 1 (items_view values.now))
-        (entries_of (E.value buses.now) (items_view values.now)) }
-    ensures names { OnOk result (names.new.items ≡ names.old.items ++ names_of (items_view values.now)) }
-    ensures lawful { IfOk result (All (E.lawful (length buses.now))) }
+    requires distinct { AllPairs ◌≢◌ names.old.items }
+    requires buses { length context.now.buses < 2 ^ 32 }
+    requires elements { length context.now.elements ≤ 100000 }
+    ensures read { Reads result (entries_fault E.fault context.now section names.old.items 1 (items_view values.now))
+        (entries_of (E.value context.now) (items_view values.now)) }
+    ensures names { OnOk result (names.new.items ≡ names.old.items ++ entries_of name_value (items_view values.now)) }
+    ensures lawful { IfOk result (All (E.lawful context.now)) }
+    ensures distinct { OnOk result (AllPairs ◌≢◌ names.new.items) }
+    ensures named { IfOk result (λ made. names.new.items ≡ names.old.items ++ map E.name_in made) }
     ensures few { length names.new.items ≤ length names.old.items + length values.now }
 {
     let mut made = Vec::new(alloc);
     let mut number = 1;
     for value in values {
-        let entry = E::read(value, number, names, buses)?;
+        let place = Place {
+            section,
+            entry: number,
+            key: Key::Nothing,
+        };
+        let entry = E::read(value, place, names, context)?;
         number += 1;
-        if names.push(entry.name()).is_err() || made.push(entry).is_err() {
-            return Err(StudyFault::NoMemory);
-        }
+        keep::<E>(names, &mut made, entry)?;
     }
     Ok(Items::from_vec(made))
 }
 
 /// The entries of a section, whose names are added to the names before them.
-#[tactic(auto, unfolding(crate::specs::StudyOf::section_fault, crate::specs::StudyOf::section_value, crate::specs::StudyOf::section_names), using(crate::proofs::Counts::entries_counted))]
+#[tactic(auto, unfolding(crate::specs::Sections::section_fault, crate::specs::Sections::section_value, crate::specs::Sections::section_names), using(crate::proofs::Counts::entries_counted))]
 fn section_entries<E: Entry>(
     alloc: Global,
     document: &Value,
     occurrence: Occurrence,
+    context: &Context,
     names: &mut Vec<Name>,
-    buses: &[Name],
 ) -> Result<Items<E>, StudyFault>
     requires most { occurrence.most ≤ 1000 }
     requires names { length names.old.items ≤ 10000 }
-    requires buses { length buses.now < 2 ^ 32 }
-    ensures read { Reads result (section_fault E.fault occurrence names.old.items buses.now (view document.now))
-        (section_value (E.value buses.now) occurrence.section (view document.now)) }
+    requires distinct { AllPairs ◌≢◌ names.old.items }
+    requires buses { length context.now.buses < 2 ^ 32 }
+    requires elements { length context.now.elements ≤ 100000 }
+    ensures read { Reads result (section_fault E.fault occurrence context.now names.old.items (view document.now))
+        (section_value (E.value context.now) occurrence.section (view document.now)) }
     ensures names { OnOk result (names.new.items ≡ names.old.items ++ section_names occurrence.section (view document.now)) }
-    ensures lawful { IfOk result (All (E.lawful (length buses.now))) }
+    ensures lawful { IfOk result (All (E.lawful context.now)) }
+    ensures distinct { OnOk result (AllPairs ◌≢◌ names.new.items) }
+    ensures named { IfOk result (λ made. names.new.items ≡ names.old.items ++ map E.name_in made) }
     ensures enough { occurrence.optional ≡ false → IfOk result (λ made. occurrence.least ≤ length made) }
     ensures few { IfOk result (λ made. length made ≤ occurrence.most) }
     ensures few_names { length names.new.items ≤ length names.old.items + occurrence.most }
 {
     let values = array(document, occurrence)?;
-    entries::<E>(alloc, values, names, buses)
+    entries::<E>(alloc, values, occurrence.section, context, names)
 }
 
-/// The base power of the study as a whole, in millionths of an MVA.
-#[tactic(auto, unfolding(crate::specs::StudyOf::study_section_fault, crate::specs::StudyOf::mva_of))]
-fn study_section(document: &Value) -> Result<u64, StudyFault>
-    ensures range { IfOk result (λ mva. (1000 ≤ mva) × (mva ≤ 10000000000)) }
-    ensures read { Reads result (study_section_fault (section_in study_word (view document.now))) (mva_of (section_in study_word (view document.now))) }
-{
-    let at = |entry: u32, key: Key| Place {
-        section: Section::Study,
-        entry,
-        key,
-    };
-    let Some(entry) = section(document, Section::Study) else {
-        return Err(StudyFault::MissingKey(at(0, Key::Nothing)));
-    };
-    let keys = [Key::Version, Key::Mva];
-    entry_keys(entry, at(0, Key::Nothing), at(1, Key::Nothing), &keys)?;
-    version(entry, at(1, Key::Version))?;
-    decimal(entry, at(1, Key::Mva), 1_000, 10_000_000_000)
-}
-
-/// A section of exactly one entry.
-fn one_of(section: Section) -> Occurrence
-    ensures { result ≡ one_of section }
-{
-    Occurrence {
-        section,
-        optional: false,
-        least: 1,
-        most: 1,
-    }
-}
-
-/// A section that is absent or has exactly one entry.
-fn one_or_none_of(section: Section) -> Occurrence
-    ensures { result ≡ one_or_none_of section }
+/// A section that may be absent, of at most so many entries.
+fn at_most(section: Section, most: u32) -> Occurrence
+    ensures { result ≡ at_most section most }
 {
     Occurrence {
         section,
         optional: true,
-        least: 1,
-        most: 1,
+        least: 0,
+        most: most as usize,
     }
 }
 
+/// The section of buses, which has to be there.
+fn some_buses() -> Occurrence
+    ensures { result ≡ some_buses }
+{
+    Occurrence {
+        section: Section::Bus,
+        optional: false,
+        least: 1,
+        most: MAX_BUSES as usize,
+    }
+}
+
+/// The elements of a study.
+#[derive(Drop)]
+pub(crate) struct Plant {
+    pub(crate) sources: Items<Source>,
+    pub(crate) lines: Items<Line>,
+    pub(crate) transformers: Items<Transformer>,
+    pub(crate) loads: Items<Load>,
+    pub(crate) banks: Items<Bank>,
+    pub(crate) filters: Items<Filter>,
+}
+
+/// The elements of a document, whose names are added to those of the buses.
+#[tactic(auto, unfolding(crate::specs::StudyOf::plant_fault, crate::specs::StudyOf::plant_names, crate::specs::StudyOf::plant_value))]
+fn plant_of(
+    alloc: Global,
+    document: &Value,
+    context: &Context,
+    names: &mut Vec<Name>,
+) -> Result<Plant, StudyFault>
+    requires names { length names.old.items ≤ 100 }
+    requires distinct { AllPairs ◌≢◌ names.old.items }
+    requires buses { length context.now.buses < 2 ^ 32 }
+    requires elements { length context.now.elements ≤ 100000 }
+    ensures lawful { IfOk result (IsLawfulPlant context.now.model context.now.buses) }
+    ensures distinct { OnOk result (AllPairs ◌≢◌ names.new.items) }
+    ensures named { IfOk result (λ plant. names.new.items ≡ names.old.items ++ names_in plant) }
+    ensures few_names { length names.new.items ≤ length names.old.items + 1200 }
+    ensures names { OnOk result (names.new.items ≡ plant_names names.old.items (view document.now)) }
+    ensures read { Reads result (plant_fault context.now names.old.items (view document.now)) (plant_value context.now (view document.now)) }
+{
+    let at = at_most(Section::Source, MAX_ELEMENTS);
+    let sources = section_entries::<Source>(alloc, document, at, context, names)?;
+    let at = at_most(Section::Line, MAX_ELEMENTS);
+    let lines = section_entries::<Line>(alloc, document, at, context, names)?;
+    let at = at_most(Section::Transformer, MAX_ELEMENTS);
+    let transformers = section_entries::<Transformer>(alloc, document, at, context, names)?;
+    let at = at_most(Section::Load, MAX_ELEMENTS);
+    let loads = section_entries::<Load>(alloc, document, at, context, names)?;
+    let at = at_most(Section::Bank, MAX_ELEMENTS);
+    let banks = section_entries::<Bank>(alloc, document, at, context, names)?;
+    let at = at_most(Section::Filter, MAX_ELEMENTS);
+    let filters = section_entries::<Filter>(alloc, document, at, context, names)?;
+    Ok(Plant {
+        sources,
+        lines,
+        transformers,
+        loads,
+        banks,
+        filters,
+    })
+}
+
+/// The context of the points of common coupling.
+#[tactic(auto, unfolding(crate::specs::StudyOf::with_elements))]
+fn with_elements(alloc: Global, context: Context, plant: &Plant) -> Result<Context, StudyFault>
+    ensures few { IfOk result (λ whole. length whole.elements ≤ length plant.now.sources + length plant.now.lines + length plant.now.transformers
+        + length plant.now.loads + length plant.now.banks + length plant.now.filters) }
+    ensures same { IfOk result (λ whole. whole ≡ record { model = context.model; buses = context.buses; elements = elements_of plant.now }) }
+    ensures read { Reads result None (with_elements context plant.now) }
+{
+    let elements = elements_of(alloc, plant)?;
+    Ok(Context {
+        model: context.model,
+        buses: context.buses,
+        elements,
+    })
+}
+
 /// The study of a document of these sections, or its first fault.
-#[tactic(auto, unfolding(crate::specs::StudyOf::sections_fault, crate::specs::StudyOf::study_value))]
+#[tactic(auto, unfolding(crate::specs::StudyOf::context_of, crate::specs::StudyOf::sections_fault, crate::specs::StudyOf::study_value))]
 fn study_in(alloc: Global, document: &Value) -> Result<Study, StudyFault>
-    ensures lawful { IfOk result IsBuilt }
+    ensures lawful { IfOk result IsLawful }
     ensures read { Reads result (sections_fault (view document.now)) (study_value (view document.now)) }
 {
-    let mva = study_section(document)?;
+    let header = study_section(document)?;
     let mut names = Vec::new(alloc);
-    let buses = section_entries::<Bus>(alloc, document, one_of(Section::Bus), &mut names, &[])?;
-    let Ok(bus_names) = Vec::from_slice(alloc, &names) else {
-        return Err(StudyFault::NoMemory);
+    let before = Context {
+        model: header.model,
+        buses: Items::new(alloc),
+        elements: Items::new(alloc),
     };
-    let at = one_of(Section::Source);
-    let sources = section_entries::<Source>(alloc, document, at, &mut names, &bus_names)?;
-    let at = one_or_none_of(Section::Bank);
-    let banks = section_entries::<Bank>(alloc, document, at, &mut names, &bus_names)?;
-    let at = one_of(Section::Scan);
-    let scans = section_entries::<ScanItem>(alloc, document, at, &mut names, &bus_names)?;
+    let buses = section_entries::<Bus>(alloc, document, some_buses(), &before, &mut names)?;
+    let context = Context {
+        model: header.model,
+        buses,
+        elements: Items::new(alloc),
+    };
+    let plant = plant_of(alloc, document, &context, &mut names)?;
+    let at = at_most(Section::Scan, MAX_SCANS);
+    let scans = section_entries::<ScanItem>(alloc, document, at, &context, &mut names)?;
+    let context = with_elements(alloc, context, &plant)?;
+    let at = at_most(Section::Pcc, MAX_POINTS);
+    let points = section_entries::<Pcc>(alloc, document, at, &context, &mut names)?;
     Ok(Study {
         version: 1,
-        mva: of_millionths(mva),
-        hz: of_millionths(50_000_000),
-        model: StudyModel::Sequence,
-        scale: 40,
-        method: Method::Elimination,
-        root3: of_millionths(1_732_051),
-        buses,
-        sources,
-        lines: Items::new(alloc),
-        transformers: Items::new(alloc),
-        loads: Items::new(alloc),
-        banks,
-        filters: Items::new(alloc),
+        mva: header.mva,
+        hz: header.hz,
+        model: header.model,
+        scale: header.scale,
+        method: header.method,
+        root3: header.root3,
+        buses: context.buses,
+        sources: plant.sources,
+        lines: plant.lines,
+        transformers: plant.transformers,
+        loads: plant.loads,
+        banks: plant.banks,
+        filters: plant.filters,
         scans,
-        points: Items::new(alloc),
+        points,
     })
+}
+
+/// The study of a document where it is of the forms that are built.
+fn built_study(alloc: Global, document: &Value) -> Result<Study, StudyFault>
+    ensures built { IfOk result IsBuilt }
+    ensures read { Reads result (first_fault (sections_fault (view document.now) ∷ unbuilt (study_value (view document.now)) ∷ [])) (study_value (view document.now)) }
+{
+    let study = study_in(alloc, document)?;
+    is_built(&study)?;
+    Ok(study)
 }
 
 /// The study of a document, or its first fault.
 #[tactic(auto, unfolding(crate::specs::StudyOf::study_fault))]
 fn study_of(alloc: Global, table: Table) -> Result<Study, StudyFault>
-    ensures lawful { IfOk result IsBuilt }
+    ensures built { IfOk result IsBuilt }
     ensures read { Reads result (study_fault (table_view table)) (study_value (table_data (table_view table))) }
 {
     let sections = [
         Section::Study,
         Section::Bus,
         Section::Source,
+        Section::Line,
+        Section::Transformer,
+        Section::Load,
         Section::Bank,
+        Section::Filter,
         Section::Scan,
+        Section::Pcc,
     ];
     if !are_sections(&sections, &table) {
         return Err(StudyFault::UnknownKey(Place {
@@ -309,22 +278,7 @@ fn study_of(alloc: Global, table: Table) -> Result<Study, StudyFault>
             key: Key::Nothing,
         }));
     }
-    study_in(alloc, &Value::Table(table))
-}
-
-/// A fault of a table is that it isn't of the built form.
-fn not_built(fault: StudyFault) -> StudyFault
-    ensures memory { fault ≡ NoMemory → result ≡ NoMemory }
-    ensures built { fault ≢ NoMemory → result ≡ NotBuilt top_place }
-{
-    match fault {
-        StudyFault::NoMemory => StudyFault::NoMemory,
-        _ => StudyFault::NotBuilt(Place {
-            section: Section::Top,
-            entry: 0,
-            key: Key::Nothing,
-        }),
-    }
+    built_study(alloc, &Value::Table(table))
 }
 
 /// The study of the bytes of a TOML document, in this project's own format (docs/study.md). A bus is its number
@@ -332,12 +286,13 @@ fn not_built(fault: StudyFault) -> StudyFault
 ///
 /// # Errors
 ///
-/// `NotToml` where the bytes are no TOML document, `NotBuilt` at the top where the document isn't of the
-/// form of a study, and `NoMemory`.
+/// The first refusal in the order of the format, `NotBuilt` where there is none but the study is of a form that
+/// isn't built yet, and `NoMemory`.
 pub fn read_study(alloc: Global, bytes: &[u8]) -> Result<Study, StudyFault>
     ensures study { IfOk result (IsStudy bytes.now) }
     ensures refused { IfErr result (λ fault. fault ≢ NoMemory → Refused bytes.now fault) }
-    ensures lawful { IfOk result IsBuilt }
+    ensures lawful { IfOk result IsLawful }
+    ensures built { IfOk result IsBuilt }
 {
     let table = match toml::table_from_slice(alloc, bytes) {
         Ok(table) => table,
@@ -350,6 +305,6 @@ pub fn read_study(alloc: Global, bytes: &[u8]) -> Result<Study, StudyFault>
     };
     match study_of(alloc, table) {
         Ok(study) => Ok(study),
-        Err(fault) => Err(not_built(fault)),
+        Err(fault) => Err(fault),
     }
 }

@@ -103,60 +103,203 @@ fn no_table(rt: HostRuntime) {
     assert_eq!(rt; fault_of(rt.alloc(), b"[study\n"), not_toml);
 }
 
-const BARE_BANK: &str = "[[bank]]\nname = \"K1\"\nbus = \"B1\"\nq = 4\n";
-
-const EMPTY_BANK: &str = "[[bank]]\nname = \"K1\"\nbus = \"B1\"\nq = \"0\"\n";
-
-const SAME_NAME: &str = "[[source]]\nname = \"B1\"\nbus = \"B1\"\nr = \"0\"\nx = \"1\"\n";
-
-const OTHER_BUS: &str = "[[source]]\nname = \"S1\"\nbus = \"B2\"\nr = \"0\"\nx = \"1\"\n";
-
-const NO_OHMS: &str = "[[source]]\nname = \"S1\"\nbus = \"B1\"\nr = \"0\"\nx = \"0\"\n";
-
-const NO_WIDTH: &str =
-    "[[scan]]\nname = \"s1\"\nbus = \"B1\"\nfrom = \"1\"\nto = \"1\"\nthreshold = \"20\"\nfinest = \"0.001\"\n";
-
-const RESERVED: &str =
-    "[[scan]]\nname = \"limits\"\nbus = \"B1\"\nfrom = \"1\"\nto = \"10\"\nthreshold = \"20\"\nfinest = \"0.001\"\n";
-
-const TOO_FINE: &str =
-    "[[scan]]\nname = \"s1\"\nbus = \"B1\"\nfrom = \"1\"\nto = \"10\"\nthreshold = \"20\"\nfinest = \"0.0001\"\n";
-
-const OTHER_SCAN: &str =
-    "[[scan]]\nname = \"s2\"\nbus = \"B1\"\nfrom = \"1\"\nto = \"10\"\nthreshold = \"20\"\nfinest = \"0.001\"\n";
-
-/// Whether the study of these pieces is refused as one of another form.
-fn is_of_another_form(alloc: Global, pieces: &[&str]) -> Result<bool, AllocError> {
-    let text = joined(alloc, pieces)?;
-    let top = Place {
-        section: Section::Top,
-        entry: 0,
-        key: Key::Nothing,
+/// Studies that are refused: the text, and the fault.
+fn fault_at(number: u32, section: Section, entry: u32, key: Key) -> StudyFault {
+    let place = Place {
+        section,
+        entry,
+        key,
     };
-    Ok(fault_of(alloc, text.as_bytes()) == Some(StudyFault::NotBuilt(top)))
+    match number {
+        3 => StudyFault::MissingKey(place),
+        4 => StudyFault::UnknownKey(place),
+        5 => StudyFault::WrongKind(place),
+        6 => StudyFault::BareDecimal(place),
+        7 => StudyFault::BadDecimal(place),
+        8 => StudyFault::OutOfRange(place),
+        9 => StudyFault::BadName(place),
+        10 => StudyFault::DuplicateName(place),
+        11 => StudyFault::UnknownBus(place),
+        12 => StudyFault::TooMany(place),
+        13 => StudyFault::BadBand(place),
+        14 => StudyFault::TooFine(place),
+        17 => StudyFault::NotBuilt(place),
+        _ => StudyFault::UnknownElement(place),
+    }
+}
+
+/// Whether the study of these pieces is refused so.
+fn is_refused(alloc: Global, pieces: &[&str], fault: StudyFault) -> Result<bool, AllocError> {
+    let text = joined(alloc, pieces)?;
+    Ok(fault_of(alloc, text.as_bytes()) == Some(fault))
+}
+
+const POINT: &str =
+    "[[pcc]]\nname = \"P1\"\nbus = \"B1\"\nelement = \"S1\"\nisc = 6000\nil = 200\n";
+
+const LINE: &str = "[[line]]\nname = \"L1\"\nfrom = \"B1\"\nto = \"B2\"\nr = \"0\"\nx = \"1\"\n";
+
+const OTHER_BUS: &str = "[[bus]]\nname = \"B2\"\nkv = \"10\"\n";
+
+const PART_OF_A_GROUP: &str =
+    "[[bus]]\nname = \"B2\"\nkv = 10\n[[line]]\nname = \"L1\"\nfrom = \"B1\"\nto = \"B2\"\nr = 0\nx = 1\nxbc = 1\n";
+
+const LOAD: &str = "[[load]]\nname = \"D1\"\nbus = \"B1\"\nmodel = \"cigre\"\np = 1\nq = 1\n";
+
+#[test]
+fn faults_of_sections(rt: HostRuntime) -> Result<(), Fail> {
+    let table = [
+        ("", BUS, 3, Section::Study, 0, Key::Nothing),
+        ("study = 1\n", BUS, 5, Section::Study, 0, Key::Nothing),
+        (
+            "[study]\nmva = 1\n",
+            BUS,
+            3,
+            Section::Study,
+            1,
+            Key::Version,
+        ),
+        (STUDY, "hz = 60.0\n", 6, Section::Study, 1, Key::Hz),
+        (STUDY, "zz = 60.0\n", 4, Section::Study, 1, Key::Nothing),
+        (STUDY, "hz = \"0.9\"\n", 8, Section::Study, 1, Key::Hz),
+        (
+            STUDY,
+            "model = \"phase\"\n",
+            5,
+            Section::Study,
+            1,
+            Key::Model,
+        ),
+        (
+            STUDY,
+            "method = \"both\"\n",
+            5,
+            Section::Study,
+            1,
+            Key::Method,
+        ),
+        (STUDY, "scale = 41\n", 8, Section::Study, 1, Key::Scale),
+        (STUDY, "bus = []\n", 4, Section::Study, 1, Key::Nothing),
+        (STUDY, SOURCE, 3, Section::Bus, 0, Key::Nothing),
+        ("bus = []\n", STUDY, 3, Section::Bus, 0, Key::Nothing),
+        ("zz = 1\n", BUS, 4, Section::Top, 0, Key::Nothing),
+        ("bus = 1\n", STUDY, 5, Section::Bus, 0, Key::Nothing),
+        ("bus = [1]\n", STUDY, 5, Section::Bus, 1, Key::Nothing),
+    ];
+    for (first, second, number, section, entry, key) in table {
+        let fault = fault_at(number, section, entry, key);
+        assert!(rt;
+            is_refused(rt.alloc(), &[first, second], fault)?,
+            "{first}{second}"
+        );
+    }
+    Ok(())
 }
 
 #[test]
-fn other_forms(rt: HostRuntime) -> Result<(), Fail> {
-    let studies = [
-        [STUDY, "hz = \"60\"\n", BUS, SOURCE, SCAN],
-        ["", BUS, SOURCE, SCAN, ""],
-        [STUDY, BUS, SOURCE, "", ""],
-        [STUDY, BUS, SOURCE, SCAN, OTHER_SCAN],
-        [STUDY, BUS, SOURCE, SCAN, "locate = \"0.0005\"\n"],
-        [STUDY, BUS, SOURCE, NO_WIDTH, ""],
-        [STUDY, BUS, SOURCE, RESERVED, ""],
-        [STUDY, BUS, SOURCE, TOO_FINE, ""],
-        [STUDY, BUS, SAME_NAME, SCAN, ""],
-        [STUDY, BUS, OTHER_BUS, SCAN, ""],
-        [STUDY, BUS, NO_OHMS, SCAN, ""],
-        [STUDY, BUS, SOURCE, BARE_BANK, SCAN],
-        [STUDY, BUS, SOURCE, EMPTY_BANK, SCAN],
-        ["bank = []\n", STUDY, BUS, SOURCE, SCAN],
-        ["title = \"a\"\n", STUDY, BUS, SOURCE, SCAN],
+fn faults_of_entries(rt: HostRuntime) -> Result<(), Fail> {
+    let table = [
+        (
+            "[[source]]\nname = \"\"\n",
+            9,
+            Section::Source,
+            2,
+            Key::Name,
+        ),
+        (
+            "[[source]]\nname = \"B1\"\n",
+            10,
+            Section::Source,
+            2,
+            Key::Name,
+        ),
+        (
+            "[[source]]\nname = \"S2\"\nbus = \"B3\"\n",
+            11,
+            Section::Source,
+            2,
+            Key::Bus,
+        ),
+        (
+            "[[bank]]\nname = \"K1\"\nbus = \"B1\"\nq = 0\n",
+            8,
+            Section::Bank,
+            1,
+            Key::Q,
+        ),
+        (
+            "[[bank]]\nname = \"K1\"\nbus = \"B1\"\nq = \"-4\"\n",
+            8,
+            Section::Bank,
+            1,
+            Key::Q,
+        ),
+        (
+            "[[bank]]\nname = \"K1\"\nbus = \"B1\"\nq = \"1e3\"\n",
+            7,
+            Section::Bank,
+            1,
+            Key::Q,
+        ),
+        (
+            "[[bank]]\nname = \"K1\"\nbus = \"B1\"\nq = 1\nphase = \"a\"\n",
+            4,
+            Section::Bank,
+            1,
+            Key::Phase,
+        ),
+        (
+            "[[pcc]]\nname = \"P1\"\nbus = \"B1\"\nelement = \"B1\"\n",
+            18,
+            Section::Pcc,
+            1,
+            Key::Element,
+        ),
+        (
+            "[[load]]\nname = \"D1\"\nbus = \"B1\"\nmodel = \"series\"\np = 1\n",
+            4,
+            Section::Load,
+            1,
+            Key::P,
+        ),
+        (
+            "[[load]]\nname = \"D1\"\nbus = \"B1\"\nmodel = \"cigre\"\np = 0\n",
+            8,
+            Section::Load,
+            1,
+            Key::P,
+        ),
+        (
+            "[[line]]\nname = \"L1\"\nfrom = \"B1\"\nto = \"B1\"\n",
+            8,
+            Section::Line,
+            1,
+            Key::To,
+        ),
+        (PART_OF_A_GROUP, 3, Section::Line, 1, Key::Xab),
     ];
-    for (number, pieces) in studies.iter().enumerate() {
-        assert!(rt; is_of_another_form(rt.alloc(), pieces)?, "study {number}");
+    for (text, number, section, entry, key) in table {
+        let fault = fault_at(number, section, entry, key);
+        assert!(rt;
+            is_refused(rt.alloc(), &[STUDY, BUS, SOURCE, SCAN, text], fault)?,
+            "{text}"
+        );
     }
+    Ok(())
+}
+
+#[test]
+fn points_and_other_scans(rt: HostRuntime) -> Result<(), Fail> {
+    let text = joined(rt.alloc(), &[STUDY, BUS, SOURCE, LOAD, POINT])?;
+    let study = read_study(rt.alloc(), text.as_bytes())?;
+    assert_eq!(rt; study.loads.len(), 1);
+    assert_eq!(rt; study.scans.len(), 0);
+    for point in study.points.as_slice() {
+        assert_eq!(rt; point.element, 1);
+        assert_eq!(rt; point.il.millionths, 200_000_000);
+    }
+    let other_form = fault_at(17, Section::Line, 1, Key::Nothing);
+    let pieces = [STUDY, BUS, OTHER_BUS, SOURCE, LINE, SCAN];
+    assert!(rt; is_refused(rt.alloc(), &pieces, other_form)?);
     Ok(())
 }

@@ -252,8 +252,8 @@ summary,s1,1,0,0,1,0
 end,4
 ";
 
-/// A key that no study has yet may stand: the frequency.
-pub const ANOTHER_FREQUENCY: &str = r#"[study]
+/// A frequency of 60 Hz changes no order.
+pub const SIXTY_HERTZ: &str = r#"[study]
 version = 1
 mva = "100"
 hz = "60"
@@ -273,3 +273,258 @@ to = "10"
 threshold = "20"
 finest = "0.001"
 "#;
+
+/// No scan.
+pub const NO_SCAN: &str = r#"[study]
+version = 1
+mva = "100"
+[[bus]]
+name = "B1"
+kv = "10"
+[[source]]
+name = "S1"
+bus = "B1"
+r = "0"
+x = "1"
+"#;
+
+pub const NO_SCAN_REPORT: &str = "end,0\n";
+
+/// All keys of the study's header, sections that are empty, decimals as whole numbers, and a point of common coupling.
+pub const ALL_KEYS: &str = r#"line = []
+load = []
+filter = []
+transformer = []
+bank = [{ name = "K1", bus = "B1", q = 4, grounded = true }]
+scan = [{ name = "s1", bus = "B1", network = "positive", from = 3, to = 4, threshold = 20, finest = "0.125", locate = "0.5" }]
+pcc = [{ name = "P1", bus = "B1", element = "K1", isc = 6000, il = 200 }]
+
+[study]
+version = 1
+mva = 100
+hz = 50
+model = "sequence"
+scale = 40
+method = "elimination"
+root3 = "1.732051"
+
+[[bus]]
+name = "B1"
+kv = 10
+
+[[source]]
+name = "S1"
+bus = "B1"
+r = "0.1"
+x = 1
+r0 = 0
+x0 = 1
+skin_k = 0
+skin_m = 1
+"#;
+
+pub const ALL_KEYS_REPORT: &str = r"scan,s1,B1,positive,3.000000,4.000000,20.000000,elimination
+box,1,3.000000,4.000000,cleared,-,-
+summary,s1,1,1,0,0,0
+end,0
+";
+
+/// A scan that is cleared, and one that is undecided: at order 5 the impedance is the threshold itself.
+pub const CLEARED_AND_UNDECIDED: &str = r#"study = { version = 1, mva = "100" }
+bus = [{ name = "B1", kv = "10" }]
+source = [{ name = "S1", bus = "B1", r = "0", x = "1" }]
+scan = [
+    { name = "s1", bus = "B1", from = "1", to = "3", threshold = "5", finest = "1" },
+    { name = "s2", bus = "B1", from = "4", to = "5", threshold = "5", finest = "1" },
+]
+"#;
+
+pub const CLEARED_AND_UNDECIDED_REPORT: &str =
+    r"scan,s1,B1,positive,1.000000,3.000000,5.000000,elimination
+box,1,1.000000,3.000000,cleared,-,-
+summary,s1,1,1,0,0,0
+scan,s2,B1,positive,4.000000,5.000000,5.000000,elimination
+box,1,4.000000,5.000000,undecided,-,-
+summary,s2,1,0,0,1,0
+end,4
+";
+
+/// A scan with a peak before one that is undecided and one that is cleared.
+pub const PEAK_AND_OTHERS: &str = r#"study = { version = 1, mva = "100" }
+bus = [{ name = "B1", kv = "10" }]
+source = [{ name = "S1", bus = "B1", r = "0", x = "1" }]
+scan = [
+    { name = "s1", bus = "B1", from = "5", to = "6", threshold = "5", finest = "1" },
+    { name = "s2", bus = "B1", from = "4", to = "5", threshold = "5", finest = "1" },
+    { name = "s3", bus = "B1", from = "1", to = "3", threshold = "5", finest = "1" },
+]
+"#;
+
+pub const PEAK_AND_OTHERS_REPORT: &str =
+    r"scan,s1,B1,positive,5.000000,6.000000,5.000000,elimination
+box,1,5.000000,6.000000,peak,5.500000,5.499999
+summary,s1,1,0,1,0,0
+scan,s2,B1,positive,4.000000,5.000000,5.000000,elimination
+box,1,4.000000,5.000000,undecided,-,-
+summary,s2,1,0,0,1,0
+scan,s3,B1,positive,1.000000,3.000000,5.000000,elimination
+box,1,1.000000,3.000000,cleared,-,-
+summary,s3,1,1,0,0,0
+end,3
+";
+
+/// The zero network, in which the source has its own reactance.
+pub const ZERO_NETWORK: &str = r#"[study]
+version = 1
+mva = "100"
+[[bus]]
+name = "B1"
+kv = "10"
+[[source]]
+name = "S1"
+bus = "B1"
+r = "0"
+x = "1"
+r0 = "0"
+x0 = "1"
+[[scan]]
+name = "s1"
+bus = "B1"
+from = "1"
+to = "10"
+threshold = "20"
+finest = "0.001"
+network = "zero"
+"#;
+
+pub const ZERO_NETWORK_REPORT: &str = r"scan,s1,B1,zero,1.000000,10.000000,20.000000,elimination
+box,1,1.000000,10.000000,cleared,-,-
+summary,s1,1,1,0,0,0
+end,0
+";
+
+/// The finer scale.
+pub const FINER_SCALE: &str = r#"[study]
+version = 1
+mva = "100"
+scale = 48
+[[bus]]
+name = "B1"
+kv = "10"
+[[source]]
+name = "S1"
+bus = "B1"
+r = "0"
+x = "1"
+[[scan]]
+name = "s1"
+bus = "B1"
+from = "1"
+to = "10"
+threshold = "20"
+finest = "0.001"
+"#;
+
+/// Two sources, one with skin effect, a load of each model, and a bank. The reports from here on were computed by another program.
+pub const MANY_ELEMENTS: &str = r#"study = { version = 1, mva = "100" }
+bus = [{ name = "B1", kv = "10" }]
+source = [
+    { name = "S1", bus = "B1", r = "0.1", x = "1" },
+    { name = "S2", bus = "B1", r = "0.2", x = "2", skin_k = "0.5", skin_m = "50" },
+]
+load = [
+    { name = "D1", bus = "B1", model = "cigre", p = "4", q = "2" },
+    { name = "D2", bus = "B1", model = "parallel", p = "10", q = "5" },
+    { name = "D3", bus = "B1", model = "series", r = "50", x = "20" },
+]
+bank = [{ name = "K1", bus = "B1", q = "4" }]
+scan = [
+    { name = "s1", bus = "B1", from = "3", to = "9", threshold = "4", finest = "0.125", locate = "0.5" },
+]
+"#;
+
+pub const MANY_ELEMENTS_REPORT: &str = r"scan,s1,B1,positive,3.000000,9.000000,4.000000,elimination
+box,1,3.000000,4.500000,cleared,-,-
+box,2,4.500000,4.875000,peak,4.687500,4.215876
+box,3,4.875000,5.250000,peak,5.062500,4.869766
+box,4,5.250000,5.625000,peak,5.437500,5.570402
+box,5,5.625000,6.000000,peak,5.812500,6.259314
+box,6,6.000000,6.375000,peak,6.187500,6.834627
+box,7,6.375000,6.750000,peak,6.562500,7.177857
+box,8,6.750000,7.125000,peak,6.937500,7.220206
+box,9,7.125000,7.500000,peak,7.312500,6.989944
+box,10,7.500000,7.875000,peak,7.687500,6.584443
+box,11,7.875000,8.250000,peak,8.062500,6.105589
+box,12,8.250000,8.625000,peak,8.437500,5.623007
+box,13,8.625000,9.000000,peak,8.812500,5.172439
+summary,s1,13,1,12,0,0
+end,3
+";
+
+/// In the zero network a load that isn't grounded is open, and so is a source without r0 and x0.
+pub const GROUNDED_ELEMENTS: &str = r#"study = { version = 1, mva = "100" }
+bus = [{ name = "B1", kv = "10" }]
+source = [
+    { name = "S1", bus = "B1", r = "0.1", x = "1", r0 = "0.3", x0 = "3" },
+    { name = "S2", bus = "B1", r = "0.2", x = "2" },
+]
+load = [
+    { name = "D1", bus = "B1", model = "cigre", p = "4", q = "2", grounded = true },
+    { name = "D2", bus = "B1", model = "parallel", p = "10", q = "5" },
+]
+bank = [{ name = "K1", bus = "B1", q = "4", grounded = true }]
+scan = [
+    { name = "s1", bus = "B1", network = "zero", from = "1", to = "6", threshold = "15", finest = "0.125", locate = "0.5" },
+]
+"#;
+
+pub const GROUNDED_ELEMENTS_REPORT: &str = r"scan,s1,B1,zero,1.000000,6.000000,15.000000,elimination
+box,1,1.000000,2.250000,cleared,-,-
+box,2,2.250000,2.562500,cleared,-,-
+box,3,2.562500,2.875000,peak,2.875000,16.154796
+box,4,2.875000,3.187500,peak,3.031250,19.123869
+box,5,3.187500,3.500000,peak,3.343750,24.264940
+box,6,3.500000,3.812500,peak,3.656250,23.167592
+box,7,3.812500,4.125000,peak,3.968750,18.403755
+box,8,4.125000,4.437500,peak,4.125000,16.252985
+box,9,4.437500,4.750000,cleared,-,-
+box,10,4.750000,6.000000,cleared,-,-
+summary,s1,10,4,6,0,0
+end,3
+";
+
+/// Two buses of different voltages, each with its own source, and a scan at each.
+pub const TWO_BUSES: &str = r#"study = { version = 1, mva = "100" }
+bus = [{ name = "B1", kv = "10" }, { name = "MAIN", kv = "33" }]
+source = [
+    { name = "S1", bus = "B1", r = "0", x = "1" },
+    { name = "S2", bus = "MAIN", r = "0.5", x = "6" },
+]
+bank = [{ name = "K1", bus = "MAIN", q = "6" }]
+scan = [
+    { name = "s1", bus = "B1", from = "1", to = "10", threshold = "20", finest = "0.001" },
+    { name = "s2", bus = "MAIN", from = "5", to = "6", threshold = "1500", finest = "0.001", locate = "0.02" },
+]
+"#;
+
+pub const TWO_BUSES_REPORT: &str = r"scan,s1,B1,positive,1.000000,10.000000,20.000000,elimination
+box,1,1.000000,10.000000,cleared,-,-
+summary,s1,1,1,0,0,0
+scan,s2,MAIN,positive,5.000000,6.000000,1500.000000,elimination
+box,1,5.000000,5.250000,cleared,-,-
+box,2,5.250000,5.375000,cleared,-,-
+box,3,5.375000,5.437500,cleared,-,-
+box,4,5.437500,5.453125,cleared,-,-
+box,5,5.453125,5.468750,peak,5.460937,1586.450756
+box,6,5.468750,5.484375,peak,5.476562,1897.524765
+box,7,5.484375,5.500000,peak,5.492187,2140.885631
+box,8,5.500000,5.515625,peak,5.507812,2140.996825
+box,9,5.515625,5.531250,peak,5.523437,1899.485098
+box,10,5.531250,5.546875,peak,5.539062,1591.744273
+box,11,5.546875,5.562500,cleared,-,-
+box,12,5.562500,5.625000,cleared,-,-
+box,13,5.625000,5.750000,cleared,-,-
+box,14,5.750000,6.000000,cleared,-,-
+summary,s2,14,8,6,0,0
+end,3
+";

@@ -1,22 +1,32 @@
-use Rattle.std.proofs.Common.{◌≡◌, ◌∙◌, ℤ, ℕ, ap, sym, subst}
-use Rattle.band_subdivision.specs.Boxes.{BoxTest, Widths, boxes_of}
-use Rattle.band_subdivision.specs.IntervalTest.{AreScanLevels}
-use Rattle.band_subdivision.specs.declared.interval_test.ScanLevels.{ScanLevels}
-use Rattle.harmscan_core.specs.Scan.{levels_of, widths_of}
-use Rattle.harmscan_core.proofs.StudyFacts.{levels_in_range, boxes_are}
+use Rattle.std.proofs.Common.{sym, subst}
+use Rattle.net_branch.specs.Exact.{exact_network}
+use Rattle.admittance_box.specs.HeldMatrix.{HasNoGroup}
+use Rattle.band_subdivision.specs.Scan.{IsScanOf}
+use Rattle.band_subdivision.specs.ScanSpec.{IsScanSpec}
+use Rattle.band_subdivision.specs.declared.scan_spec.ScanSpec.{ScanSpec}
+use Rattle.harmscan_core.proofs.StudyFacts.{built_elements, spec_in_range, no_memory, can_scan, walk_boxes}
+use Rattle.harmscan_core.proofs.Uncoupled.{no_group}
 use Rattle.harmscan_core.proofs.scan.walk_of.Goals as goal
 
-pub new-requires : goal.new-requires
-new-requires c =
-    subst (λ (k : ℤ). AreScanLevels (record { threshold = c.args.scan.now.threshold; kv = k; mva = c.args.study.now.mva })) (sym c.kv.ensures)
-    (levels_in_range c.args.study.now c.args.scan.now c.requires.study c.requires.scan)
+pub build_sequence-requires-clause-built : goal.build_sequence-requires-clause-built
+build_sequence-requires-clause-built g c = built_elements c.args.study.now c.requires.study
 
-pub returns : goal.returns
-returns c =
-    let levels : record { threshold = c.args.scan.now.threshold; kv = c.kv.result; mva = c.args.study.now.mva } ≡ levels_of c.args.study.now c.args.scan.now
-    = ap (λ (k : ℤ). record { threshold = c.args.scan.now.threshold; kv = k; mva = c.args.study.now.mva }) c.kv.ensures in
-    let widths : record { finest = c.micro-3.result; locate = c.micro-4.result } ≡ widths_of c.args.scan.now
-    = ap (λ (f : ℕ). record { finest = f; locate = c.micro-4.result }) c.micro-3.ensures ∙ ap (λ (l : ℕ). record { finest = (widths_of c.args.scan.now).finest; locate = l }) c.micro-4.ensures in
-    c.new-2.ensures.left
-    ∙ ap (λ (t : BoxTest). boxes_of t (record { finest = c.micro-3.result; locate = c.micro-4.result }) c.micro.result c.micro-2.result) c.new.ensures.test
-    ∙ boxes_are c.args.study.now c.args.scan.now _ _ _ _ _ c.requires.study.scale levels c.in_ok-reduction.ensures widths c.micro.ensures c.micro-2.ensures
+pub returns-in-Err-clause-fault : goal.returns-in-Err-clause-fault
+returns-in-Err-clause-fault g c = no_memory c.args.study.now c.args.scan.now.network c.in-Err.fault c.requires.networks c.in-Err.ensures.too_many
+
+pub new-requires-clause-no_group : goal.new-requires-clause-no_group
+new-requires-clause-no_group g c = subst HasNoGroup (sym c.in-Ok.ensures.network) (no_group c.args.study.now c.args.scan.now.network)
+
+pub new-requires-clause-spec : goal.new-requires-clause-spec
+new-requires-clause-spec g c = subst IsScanSpec (sym c.spec_of.ensures) (spec_in_range c.args.study.now c.args.scan.now c.requires.study.lawful c.requires.scan)
+
+pub returns-in-Ok-new-clause-can : goal.returns-in-Ok-new-clause-can
+returns-in-Ok-new-clause-can g c =
+    let made = subst (λ (s : ScanSpec). IsScanOf g.E.Enclosure.SCALE (exact_network c.in-Ok.network) (exact_network c.in-Ok.network) c.args.scan.now.bus s c.in-Ok-new.walk) c.spec_of.ensures c.in-Ok-new.ensures in
+    can_scan g.E.Enclosure.SCALE c.args.study.now c.args.scan.now c.in-Ok.network c.in-Ok-new.walk c.in-Ok.ensures.network c.in-Ok.ensures.whole made
+
+pub returns-in-Ok-new-clause-boxes : goal.returns-in-Ok-new-clause-boxes
+returns-in-Ok-new-clause-boxes g c =
+    let made = subst (λ (s : ScanSpec). IsScanOf g.E.Enclosure.SCALE (exact_network c.in-Ok.network) (exact_network c.in-Ok.network) c.args.scan.now.bus s c.in-Ok-new.walk) c.spec_of.ensures c.in-Ok-new.ensures in
+    let can = can_scan g.E.Enclosure.SCALE c.args.study.now c.args.scan.now c.in-Ok.network c.in-Ok-new.walk c.in-Ok.ensures.network c.in-Ok.ensures.whole made in
+    walk_boxes g.E.Enclosure.SCALE c.args.study.now c.args.scan.now (exact_network c.in-Ok.network) c.in-Ok-new.walk c.requires.scale c.in-Ok.ensures.network can made

@@ -1,6 +1,6 @@
 use Rattle.std.proofs.Common.{◌≡◌}
 use Rattle.toml.specs.View.{members_view}
-use Rattle.study_reader.specs.Checks.{are_sections}
+use Rattle.study_reader.specs.Sections.{are_sections}
 use Rattle.study_reader.proofs.arrays.are_sections.Given as goal
 
 abbrev pub invariant-members : goal.invariant-members

@@ -1,5 +1,5 @@
 use Rattle.std.proofs.Common.{◌≡◌, drop}
-use Rattle.study_reader.specs.Checks.{is_section}
+use Rattle.study_reader.specs.Sections.{is_section}
 use Rattle.study_reader.proofs.arrays.is_section.Given as goal
 
 abbrev pub invariant-loop-section : goal.invariant-loop-section

@@ -4,8 +4,7 @@ use Rattle.toml.specs.Data.{Members}
 use Rattle.toml.specs.Errors.{IsMemory}
 use Rattle.toml.specs.View.{table_view}
 use Rattle.toml.specs.Parse.{parse_document}
-use Rattle.study_reader.specs.StudyOf.{HasTable, no_table}
-use Rattle.study_reader.proofs.Refusals.{refused_by}
+use Rattle.study_reader.specs.StudyOf.{HasTable, no_table, first}
 use Rattle.study_reader.proofs.study.read_study.Goals as goal
 
 pub returns-in-Err-clause-refused : goal.returns-in-Err-clause-refused
@@ -15,5 +14,4 @@ returns-in-Err-clause-refused c = λ other. no_table (λ (ms : Members). λ (has
     let some : parse_document c.args.bytes.now ≡ Some ms = has.1 in cc)
 
 pub returns-in-Err-study_of-clause-refused : goal.returns-in-Err-study_of-clause-refused
-returns-in-Err-study_of-clause-refused c = refused_by c.args.bytes.now (table_view c.in-Ok.table) c.in-Err-study_of.fault c.not_built.result c.in-Ok.ensures.ok
-    c.in-Err-study_of.ensures.read c.not_built.ensures.memory c.not_built.ensures.built
+returns-in-Err-study_of-clause-refused c = λ other. first (table_view c.in-Ok.table) c.in-Err-study_of.fault c.in-Ok.ensures.ok (c.in-Err-study_of.ensures.read other)

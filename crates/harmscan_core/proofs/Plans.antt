@@ -1,0 +1,126 @@
+-- Scans that are written one after another.
+use Rattle.std.proofs.Common.{◌≡◌, ◌∙◌, ◌<◌, ◌≤◌, ◌+◌, ℕ, suc, List, [], ◌∷◌, ◌++◌, map, drop, length, get_or, Err, ap, sym, subst, refl, arith, append-nil, drop-cons}
+use Rattle.std.proofs.lemmas.List.{drop_all}
+use Rattle.std.specs.List.{AllByRecursion}
+use Rattle.std.proofs.lemmas.List.Elements.{recursion_from_All}
+use Rattle.harm_io.specs.Sinks.{SinkState, took, Writes}
+use Rattle.harm_io.specs.declared.sink.PutFault.{PutFault}
+use Rattle.harm_io.proofs.Writing.{WroteFront, front_start, front_next, front_stop, front_end}
+use Rattle.band_subdivision.specs.BoxText.{HasText}
+use Rattle.scan_report.specs.declared.boxes.BoxRow.{BoxRow}
+use Rattle.study_model.specs.Lawful.{IsLawful, IsLawfulScan}
+use Rattle.study_model.specs.declared.records.ScanItem.{ScanItem}
+use Rattle.study_model.specs.declared.records.Study.{Study}
+use Rattle.harmscan_core.specs.Scan.{boxes_in}
+use Rattle.harmscan_core.specs.Report.{counted, no_counts, found_too, found_in, nothing_found}
+use Rattle.harmscan_core.specs.Texts.{scan_text, scans_text}
+use Rattle.harmscan_core.specs.Plan.{CanScan, IsPlanned, IsPlan}
+use Rattle.harmscan_core.specs.declared.counts.Counts.{Counts}
+use Rattle.harmscan_core.specs.declared.counts.Found.{Found}
+use Rattle.harmscan_core.specs.declared.plan.PlannedScan.{PlannedScan}
+use Rattle.harmscan_core.proofs.StudyFacts.{scan_texts, scan_few}
+
+abbrev pub scans_of : {E : Type 0} → List (PlannedScan E) → List ScanItem
+scans_of plan = map (λ planned. planned.scan) plan
+
+-- the rows of the scans before this plan were written, and this was found in them
+pub record Putting {E : Type 0} (study : Study) (plan : List (PlannedScan E)) (found : Found) (before now : SinkState) : Type 0 where
+  pub lawful : AllByRecursion (IsLawfulScan study.model study.buses) (scans_of plan)
+  pub each : AllByRecursion (IsPlanned study) plan
+  pub wrote : WroteFront before now (scans_text study (scans_of plan)) (scans_text study study.scans)
+  pub counts : found_in study found (scans_of plan) ≡ found_in study nothing_found study.scans
+
+pub putting_start : {E : Type 0} (study : Study) (plan : List (PlannedScan E)) (out : SinkState) → IsLawful study → IsPlan study plan → Putting study plan nothing_found out out
+putting_start {E} study plan out lawful is = record {
+  lawful = subst (AllByRecursion (IsLawfulScan study.model study.buses)) (sym is.scans) (recursion_from_All (IsLawfulScan study.model study.buses) study.scans lawful.scans);
+  each = is.each;
+  wrote = subst (λ (l : List ScanItem). WroteFront out out (scans_text study l) (scans_text study study.scans)) (sym is.scans) (front_start out (scans_text study study.scans));
+  counts = ap (found_in study nothing_found) is.scans;
+}
+
+-- the next scan of a plan
+pub record Next {E : Type 0} (study : Study) (planned : PlannedScan E) : Type 0 where
+  pub lawful : IsLawfulScan study.model study.buses planned.scan
+  pub boxes : planned.walk.left ≡ boxes_in study planned.scan
+  pub texts : AllByRecursion HasText planned.walk.left
+  pub few : length planned.walk.left < 4294967295
+
+pub putting_first : {E : Type 0} (study : Study) (plan : List (PlannedScan E)) (planned : PlannedScan E) (rest : List (PlannedScan E)) (found : Found) (before now : SinkState) → IsLawful study
+    → plan ≡ planned ∷ rest → Putting study plan found before now → Next study planned
+putting_first {E} study plan planned rest found before now lawful e p =
+    let q = subst (λ (l : List (PlannedScan E)). Putting study l found before now) e p in
+    let boxes : planned.walk.left ≡ boxes_in study planned.scan = q.each.0.boxes in
+    record {
+      lawful = q.lawful.0;
+      boxes = boxes;
+      texts = subst (AllByRecursion HasText) (sym boxes) (scan_texts study planned.scan lawful q.lawful.0);
+      few = subst (λ (l : List BoxRow). length l < 4294967295) (sym boxes) (scan_few study planned.scan lawful q.lawful.0);
+    }
+
+-- it was written
+pub putting_next : {E : Type 0} (study : Study) (plan : List (PlannedScan E)) (planned : PlannedScan E) (rest : List (PlannedScan E)) (found more : Found) (counts : Counts) (before now after : SinkState)
+    → plan ≡ planned ∷ rest → Putting study plan found before now → after ≡ took now (scan_text study planned.scan) → counts ≡ counted no_counts (boxes_in study planned.scan)
+    → more ≡ found_too found counts → Putting study rest more before after
+putting_next {E} study plan planned rest found more counts before now after e p wrote is next =
+    let q = subst (λ (l : List (PlannedScan E)). Putting study l found before now) e p in
+    record {
+      lawful = q.lawful.1;
+      each = q.each.1;
+      wrote = front_next before now after (scan_text study planned.scan) (scans_text study (scans_of rest)) (scans_text study study.scans) q.wrote wrote;
+      counts = ap (λ (f : Found). found_in study f (scans_of rest)) (next ∙ ap (found_too found) is) ∙ q.counts;
+    }
+
+-- it was not
+pub putting_stop : {E : Type 0} (study : Study) (plan : List (PlannedScan E)) (planned : PlannedScan E) (rest : List (PlannedScan E)) (found : Found) (before now after : SinkState) (fault : PutFault)
+    → plan ≡ planned ∷ rest → Putting study plan found before now → Writes {A = Counts} (scan_text study planned.scan) now after (Err fault)
+    → Writes {A = Found} (scans_text study study.scans) before after (Err fault)
+putting_stop {E} study plan planned rest found before now after fault e p w =
+    let q = subst (λ (l : List (PlannedScan E)). Putting study l found before now) e p in
+    front_stop Counts Found before now after (scan_text study planned.scan) (scans_text study (scans_of rest)) (scans_text study study.scans) fault q.wrote w
+
+-- all were
+pub putting_end : {E : Type 0} (study : Study) (plan : List (PlannedScan E)) (found : Found) (before now : SinkState) → plan ≡ [] → Putting study plan found before now
+    → (now ≡ took before (scans_text study study.scans)) × (found ≡ found_in study nothing_found study.scans)
+putting_end {E} study plan found before now e p =
+    let q = subst (λ (l : List (PlannedScan E)). Putting study l found before now) e p in (front_end before now (scans_text study study.scans) q.wrote, q.counts)
+
+-- each scan of a plan can be scanned
+planned_can : {E : Type 0} (study : Study) (plan : List (PlannedScan E)) → AllByRecursion (IsPlanned study) plan → AllByRecursion (CanScan study) (scans_of plan)
+planned_can study [] h = tt
+planned_can study (planned ∷ plan) h = (h.0.can, planned_can study plan h.1)
+
+pub plan_can : {E : Type 0} (study : Study) (plan : List (PlannedScan E)) → IsPlan study plan → AllByRecursion (CanScan study) study.scans
+plan_can {E} study plan is = subst (AllByRecursion (CanScan study)) is.scans (planned_can study plan is.each)
+
+-- ---- the making of a plan
+-- the scans before this one are planned
+pub record Planning {E : Type 0} (study : Study) (plan : List (PlannedScan E)) (scans : List ScanItem) (i : ℕ) : Type 0 where
+  pub before : scans_of plan ++ drop i scans ≡ scans
+  pub each : AllByRecursion (IsPlanned study) plan
+
+scans_of_more : {E : Type 0} (plan : List (PlannedScan E)) (planned : PlannedScan E) (rest : List ScanItem) → scans_of (plan ++ planned ∷ []) ++ rest ≡ scans_of plan ++ planned.scan ∷ rest
+scans_of_more [] planned rest = refl
+scans_of_more (p ∷ plan) planned rest = ap (λ (l : List ScanItem). p.scan ∷ l) (scans_of_more plan planned rest)
+
+each_more : {E : Type 0} (study : Study) (plan : List (PlannedScan E)) (planned : PlannedScan E) → AllByRecursion (IsPlanned study) plan → IsPlanned study planned → AllByRecursion (IsPlanned study) (plan ++ planned ∷ [])
+each_more study [] planned h p = (p, tt)
+each_more study (q ∷ plan) planned h p = (h.0, each_more study plan planned h.1 p)
+
+pub planning_next : {E : Type 0} (study : Study) (plan : List (PlannedScan E)) (planned : PlannedScan E) (scans : List ScanItem) (i : ℕ) (scan : ScanItem) → i < length scans → scan ≡ get_or scans i scan
+    → planned.scan ≡ scan → IsPlanned study planned → Planning study plan scans i → Planning study (plan ++ planned ∷ []) scans (i + 1)
+planning_next study plan planned scans i scan inside there is can p =
+    let next : suc i ≡ i + 1 = omega arith in
+    let rest : drop i scans ≡ scan ∷ drop (i + 1) scans
+    = drop-cons scans i scan inside ∙ ap (λ (x : ScanItem). x ∷ drop (suc i) scans) (sym there) ∙ ap (λ (k : ℕ). scan ∷ drop k scans) next in
+    record {
+      before = scans_of_more plan planned (drop (i + 1) scans) ∙ ap (λ (x : ScanItem). scans_of plan ++ x ∷ drop (i + 1) scans) is ∙ sym (ap (λ (l : List ScanItem). scans_of plan ++ l) rest) ∙ p.before;
+      each = each_more study plan planned p.each can;
+    }
+
+pub planning_end : {E : Type 0} (study : Study) (plan : List (PlannedScan E)) (scans : List ScanItem) (i : ℕ) → i ≡ length scans → scans ≡ study.scans → Planning study plan scans i → IsPlan study plan
+planning_end study plan scans i last same p =
+    let past : length scans ≤ i = omega (arith, last) in
+    record {
+      scans = sym (append-nil (scans_of plan)) ∙ sym (ap (λ (l : List ScanItem). scans_of plan ++ l) (drop_all i scans past)) ∙ p.before ∙ same;
+      each = p.each;
+    }

@@ -1,0 +1,25 @@
+-- The scans of a study with their walks.
+use Rattle.std.specs.Prelude.{◌≡◌, List, map}
+use Rattle.std.specs.List.{AllByRecursion}
+use Rattle.network_theory.specs.Network.{IsWhole}
+use Rattle.admittance_box.specs.HeldMatrix.{CanAssemble}
+use Rattle.sequence_network.specs.Networks.{network_of}
+use Rattle.study_model.specs.declared.records.ScanItem.{ScanItem}
+use Rattle.study_model.specs.declared.records.Study.{Study}
+use Rattle.harmscan_core.specs.Scan.{order_of, boxes_in}
+use Rattle.harmscan_core.specs.declared.plan.PlannedScan.{PlannedScan}
+
+-- the network of a scan is whole, and its matrix can be assembled with the scanned bus last
+pub record CanScan (study : Study) (scan : ScanItem) : Type 0 where
+  pub whole : IsWhole (network_of study scan.network)
+  pub ready : CanAssemble (network_of study scan.network) (network_of study scan.network) scan.bus (order_of (network_of study scan.network) scan.bus)
+
+-- the boxes that the walk has still to give are those of its scan
+pub record IsPlanned {E : Type 0} (study : Study) (planned : PlannedScan E) : Type 0 where
+  pub can : CanScan study planned.scan
+  pub boxes : planned.walk.left ≡ boxes_in study planned.scan
+
+-- all scans of a study in order, each with its boxes
+pub record IsPlan {E : Type 0} (study : Study) (plan : List (PlannedScan E)) : Type 0 where
+  pub scans : map (λ planned. planned.scan) plan ≡ study.scans
+  pub each : AllByRecursion (IsPlanned study) plan

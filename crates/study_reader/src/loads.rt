@@ -1,0 +1,140 @@
+// The entry of a load.
+ghost use Rattle.std.specs.Prelude.{◌≡◌, ◌<◌, ◌^◌, is_some, length, IfOk, IfSome};
+ghost use Rattle.toml.specs.View.{view};
+ghost use Rattle.study_model.specs.Range.{IsIn};
+ghost use Rattle.study_model.specs.Lawful.{IsLawfulLoad};
+ghost use Rattle.study_model.specs.declared.range.TheConstants.Range.{ORDINARY};
+ghost use Rattle.study_reader.specs.Lawful.{IsFresh};
+ghost use Rattle.study_reader.specs.Checks.{Reads, AreNotBothGivenZero};
+ghost use Rattle.study_reader.specs.Loads.{is_series, power_range, part_fault, parts_fault, part, load_entry_fault, load_entry as load_of};
+ghost use Rattle.study_reader.specs.Checks.{option_value};
+
+use crate::context::Context;
+use crate::decimals::{not_both_zero, optional_decimal};
+use crate::groups::wiring_of;
+use crate::keys::{bus, entry_keys, name, not_stray};
+use crate::words::word;
+use fixed_decimal::Decimal;
+use study_model::{Key, Load, LoadModel, Name, Place, Range, StudyFault};
+use toml::Value;
+
+/// Two decimals that belong together: a power, or an impedance.
+#[derive(Clone, Copy)]
+pub(crate) struct Part {
+    pub(crate) first: Option<Decimal>,
+    pub(crate) second: Option<Decimal>,
+}
+
+fn is_series(model: LoadModel) -> bool
+    ensures { result ≡ is_series model }
+{
+    match model {
+        LoadModel::Cigre => false,
+        LoadModel::Parallel => false,
+        LoadModel::Series => true,
+    }
+}
+
+fn power_range(model: LoadModel) -> Range
+    ensures { result ≡ power_range model }
+{
+    match model {
+        LoadModel::Cigre => Range::ABOVE_ZERO,
+        LoadModel::Parallel => Range::ORDINARY,
+        LoadModel::Series => Range::ORDINARY,
+    }
+}
+
+/// A decimal that stands there exactly where it belongs.
+#[tactic(auto, unfolding(crate::specs::Loads::part_fault))]
+fn belonging(
+    entry: &Value,
+    place: Place,
+    key: Key,
+    belongs: bool,
+    range: Range,
+) -> Result<Option<Decimal>, StudyFault>
+    ensures there { IfOk result (λ decimal. is_some decimal ≡ belongs) }
+    ensures range { IfOk result (λ decimal. IfSome decimal (IsIn range)) }
+    ensures read { Reads result (part_fault place key belongs range (view entry.now)) (option_value key (view entry.now)) }
+{
+    not_stray(entry, place, key, belongs)?;
+    optional_decimal(entry, place, key, belongs, range)
+}
+
+#[tactic(auto, unfolding(crate::specs::Loads::parts_fault))]
+fn part_of(
+    entry: &Value,
+    place: Place,
+    keys: (Key, Key),
+    belongs: bool,
+    range: Range,
+) -> Result<Part, StudyFault>
+    ensures first { IfOk result (λ part. (is_some part.first ≡ belongs) × IfSome part.first (IsIn range)) }
+    ensures second { IfOk result (λ part. (is_some part.second ≡ belongs) × IfSome part.second (IsIn ORDINARY)) }
+    ensures some { IfOk result (λ part. AreNotBothGivenZero part.first part.second) }
+    ensures read { Reads result (parts_fault place keys.0 keys.1 belongs range (view entry.now)) (part keys.0 keys.1 (view entry.now)) }
+{
+    let first = belonging(entry, place, keys.0, belongs, range)?;
+    let second = belonging(entry, place, keys.1, belongs, Range::ORDINARY)?;
+    not_both_zero(place, keys.1, &first, &second)?;
+    Ok(Part { first, second })
+}
+
+#[tactic(auto, unfolding(crate::specs::Loads::load_entry_fault, crate::specs::Loads::load_entry), using(crate::proofs::Rules::load_rules))]
+pub(crate) fn load_entry(
+    entry: &Value,
+    place: Place,
+    earlier: &[Name],
+    context: &Context,
+) -> Result<Load, StudyFault>
+    requires earlier { length earlier.now < 2 ^ 32 }
+    requires buses { length context.now.buses < 2 ^ 32 }
+    ensures lawful { IfOk result (IsLawfulLoad context.now.model context.now.buses) }
+    ensures fresh { IfOk result (λ e. IsFresh earlier.now e.name) }
+    ensures read { Reads result (load_entry_fault context.now earlier.now place (view entry.now)) (load_of context.now (view entry.now)) }
+{
+    let keys = [
+        Key::Name,
+        Key::Bus,
+        Key::Model,
+        Key::P,
+        Key::Q,
+        Key::R,
+        Key::X,
+        Key::Grounded,
+        Key::Phase,
+    ];
+    entry_keys(entry, place, place, &keys)?;
+    let name = name(entry, place, earlier)?;
+    let bus = bus(entry, place, Key::Bus, context.buses.as_slice())?;
+    let model = word::<LoadModel>(entry, place, Key::Model, true)?;
+    let model = model.unwrap_or(LoadModel::Cigre);
+    let has_power = !is_series(model);
+    let power = part_of(
+        entry,
+        place,
+        (Key::P, Key::Q),
+        has_power,
+        power_range(model),
+    )?;
+    let ohms = part_of(
+        entry,
+        place,
+        (Key::R, Key::X),
+        is_series(model),
+        Range::ORDINARY,
+    )?;
+    let wiring = wiring_of(entry, place, context.model)?;
+    Ok(Load {
+        name,
+        bus,
+        model,
+        p: power.first,
+        q: power.second,
+        r: ohms.first,
+        x: ohms.second,
+        grounded: wiring.grounded,
+        phase: wiring.phase,
+    })
+}
