@@ -1,1 +1,4 @@
 pub mod Values
+pub mod PlainLaws
+pub mod PlainElements
+pub mod SmallBranches

@@ -7,7 +7,7 @@ use Rattle.study_model.specs.Range.{IsIn}
 use Rattle.study_model.specs.Lawful.{IsLawfulBus}
 use Rattle.study_model.specs.declared.records.Bus.{Bus}
 use Rattle.element_expansion.specs.PerUnit.{kv_of}
-use Rattle.study_model.specs.declared.range.TheConstants.Range.{BUS_KV}
+use Rattle.study_model.specs.declared.range.TheConstants.Range.{BUS_KV, BASE_MVA}
 
 -- the square of a whole number of at least 1
 pub square_above : (v : ℤ) → pos 1 ≤ℤ v → pos 1 ≤ℤ (v *ℤ v)
@@ -40,6 +40,15 @@ pub product_size : (a b : ℤ) → pos 1 ≤ℤ a → pos 1 ≤ℤ b → unsigne
 product_size (pos m) (pos n) h k = refl
 product_size (pos m) (negsuc n) h k = absurd (omega (arith, ints))
 product_size (negsuc m) b h k = absurd (omega (arith, ints))
+
+-- a number of at least 1, so many times
+pub times_parts : (a : ℤ) (n : ℕ) → pos 1 ≤ℤ a → 1 ≤ n → n ≤ 128 → unsigned_abs (a *ℤ pos n) ≤ unsigned_abs a * 128
+times_parts (pos m) n h k l = let most : m * n ≤ m * 128 = mul-le-mul_left m l in omega (arith, ints)
+times_parts (negsuc m) n h k l = absurd (omega (arith, ints))
+
+-- a base in MVA is at least 1 and at most 10^10 millionths
+pub base_above : (s : ℤ) → IsIn BASE_MVA s → (pos 1 ≤ℤ s) × (unsigned_abs s ≤ 10000000000)
+base_above s h = (omega (arith, ints, h.0), omega (arith, ints, h.0, h.1))
 
 -- the voltage of a bus of a lawful study
 pub kv_within : (buses : List Bus) (n : ℕ) → All IsLawfulBus buses → n < length buses → IsIn BUS_KV (kv_of buses n)

@@ -1,3 +1,8 @@
 pub mod PerUnit
 pub mod Small
+pub mod Plain
 pub mod Expansion
+pub mod Parts
+pub mod Lines
+pub mod Transformers
+pub mod Filters

@@ -20,9 +20,13 @@ as_written d = over d (10 ^ 6)
 unfoldable pub impedance_per_unit : ℤ → ℤ → ℤ → Ratio
 impedance_per_unit z s v = over (z *ℤ s) (unsigned_abs (v *ℤ v))
 
--- a susceptance of b microsiemens: b·v²/(s·10^18)
-unfoldable pub susceptance_per_unit : ℤ → ℤ → ℤ → Ratio
-susceptance_per_unit b s v = over (b *ℤ (v *ℤ v)) (unsigned_abs s * 10 ^ 18)
+-- one of n equal parts in series of an impedance of z ohms: z·s/(v²·n)
+unfoldable pub impedance_share : ℤ → ℤ → ℤ → ℕ → Ratio
+impedance_share z s v n = over (z *ℤ s) (unsigned_abs (v *ℤ v) * n)
+
+-- one of n equal parts side by side of a susceptance of b microsiemens: b·v²/(s·10^18·n)
+unfoldable pub susceptance_share : ℤ → ℤ → ℤ → ℕ → Ratio
+susceptance_share b s v n = over (b *ℤ (v *ℤ v)) (unsigned_abs s * 10 ^ 18 * n)
 
 -- the impedance of a rating of q MW or MVAr: s/q
 unfoldable pub impedance_of_rating : ℤ → ℤ → Ratio
@@ -36,6 +40,10 @@ susceptance_of_rating q s = over q (unsigned_abs s)
 unfoldable pub percent_per_unit : ℤ → ℤ → ℤ → Ratio
 percent_per_unit z s t = over (z *ℤ s) (unsigned_abs t * 10 ^ 8)
 
+-- one over a transformer's ratio t: 10^6/t
+unfoldable pub inverse_ratio : ℤ → Ratio
+inverse_ratio t = over (pos (10 ^ 6)) (unsigned_abs t)
+
 -- the reactance in series with the resistance of a CIGRE load of p MW: 73·s/(1000·p)
 unfoldable pub cigre_series_reactance : ℤ → ℤ → Ratio
 cigre_series_reactance p s = over (pos 73 *ℤ s) (1000 * unsigned_abs p)
@@ -43,3 +51,28 @@ cigre_series_reactance p s = over (pos 73 *ℤ s) (1000 * unsigned_abs p)
 -- the reactance beside them, of a CIGRE load of p MW and q MVAr: 100·s/(670·q - 74·p)
 unfoldable pub cigre_parallel_reactance : ℤ → ℤ → ℤ → Ratio
 cigre_parallel_reactance p q s = over (pos 100 *ℤ s) (unsigned_abs (pos 670 *ℤ q -ℤ pos 74 *ℤ p))
+
+-- A filter of q MVAr is tuned to the order n and has the quality w. Its capacitor has the reactance xc = s/q.
+-- the reactance that is tuned with it, xc/n²: s·10^12/(q·n²)
+unfoldable pub tuned_reactance : ℤ → ℤ → ℤ → Ratio
+tuned_reactance q n s = over (s *ℤ pos (10 ^ 12)) (unsigned_abs q * unsigned_abs (n *ℤ n))
+
+-- the resistance of a single tuned filter, xc/(n·w): s·10^12/(q·n·w)
+unfoldable pub tuned_resistance : ℤ → ℤ → ℤ → ℤ → Ratio
+tuned_resistance q n w s = over (s *ℤ pos (10 ^ 12)) (unsigned_abs q * unsigned_abs (n *ℤ w))
+
+-- the resistance of a high-pass filter, w·xc/n: w·s/(q·n)
+unfoldable pub highpass_resistance : ℤ → ℤ → ℤ → ℤ → Ratio
+highpass_resistance q n w s = over (w *ℤ s) (unsigned_abs (q *ℤ n))
+
+-- n² - 1, in units of 10^-12
+abbrev pub above_fundamental : ℤ → ℤ
+above_fundamental n = n *ℤ n -ℤ pos (10 ^ 12)
+
+-- the reactance of a C-type filter, xc/(n² - 1): s·10^12/(q·(n² - 1))
+unfoldable pub ctype_reactance : ℤ → ℤ → ℤ → Ratio
+ctype_reactance q n s = over (s *ℤ pos (10 ^ 12)) (unsigned_abs q * unsigned_abs (above_fundamental n))
+
+-- the resistance of a C-type filter, w·n·xc/(n² - 1): w·n·s/(q·(n² - 1))
+unfoldable pub ctype_resistance : ℤ → ℤ → ℤ → ℤ → Ratio
+ctype_resistance q n w s = over (w *ℤ n *ℤ s) (unsigned_abs q * unsigned_abs (above_fundamental n))

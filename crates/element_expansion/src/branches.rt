@@ -1,11 +1,16 @@
 // Branches with one tap or two.
-ghost use Rattle.std.specs.Prelude.{◌≡◌, IfOk};
+ghost use Rattle.std.specs.Prelude.{◌≡◌, pos, IfOk};
 ghost use Rattle.exact_fraction.specs.Fraction.{ratio_of};
 ghost use Rattle.net_branch.specs.Exact.{exact_law, exact_branch};
+ghost use Rattle.exact_algebra.specs.Ratio.{whole};
+ghost use Rattle.network_theory.specs.Branch.{Series};
+ghost use Rattle.element_expansion.specs.PerUnit.{as_written};
 ghost use Rattle.element_expansion.specs.Expansion.{to_ground, between, series};
 ghost use Rattle.element_expansion.specs.Small.{IsSmall, IsSmallLaw};
 
+use crate::per_unit::{as_written, zero};
 use exact_fraction::Fraction;
+use fixed_decimal::Decimal;
 use net_branch::{Branch, Law, NodeId, Tap};
 use sqlite_items::Items;
 use std::alloc::{AllocError, Global};
@@ -22,6 +27,20 @@ pub fn series(r: Fraction, x: Fraction) -> Law
         m: Fraction { num: 1, den: 1 },
         x,
         xc: Fraction { num: 0, den: 1 },
+    }
+}
+
+/// A resistance and a reactance in series, in per unit, with the skin coefficients of an element.
+pub fn skin_series(r: Fraction, skin_k: Decimal, skin_m: Decimal, x: Fraction) -> Law
+    ensures value { exact_law result ≡ Series (ratio_of r) (as_written skin_k) (as_written skin_m) (ratio_of x) (whole (pos 0)) }
+    ensures small { IsSmall (ratio_of r) → IsSmall (ratio_of x) → IsSmallLaw (exact_law result) }
+{
+    Law::Series {
+        r,
+        k: as_written(skin_k),
+        m: as_written(skin_m),
+        x,
+        xc: zero(),
     }
 }
 

@@ -2,12 +2,15 @@
 #![tactic(auto)]
 
 mod branches;
+mod element;
 mod per_unit;
 #[cfg(test)]
 mod tests;
 
-pub use branches::{between, series, to_ground};
+pub use branches::{between, series, skin_series, to_ground};
+pub use element::{Parts, add_plain};
 pub use per_unit::{
-    as_written, impedance, impedance_of_rating, kv, percent, susceptance, susceptance_of_rating,
+    as_written, impedance, impedance_of_rating, impedance_share, inverse_ratio, kv, percent,
+    product, scaled, small, susceptance_of_rating, susceptance_share, times, triple_impedance,
     zero,
 };

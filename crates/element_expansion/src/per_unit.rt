@@ -4,7 +4,7 @@ ghost use Rattle.exact_algebra.specs.Ratio.{whole};
 ghost use Rattle.exact_fraction.specs.Fraction.{ratio_of};
 ghost use Rattle.study_model.specs.Range.{IsIn};
 ghost use Rattle.study_model.specs.declared.range.TheConstants.Range.{BASE_MVA, BUS_KV};
-ghost use Rattle.element_expansion.specs.PerUnit.{kv_of, as_written, impedance_per_unit, susceptance_per_unit, impedance_of_rating, susceptance_of_rating, percent_per_unit};
+ghost use Rattle.element_expansion.specs.PerUnit.{kv_of, as_written, impedance_per_unit, impedance_share, susceptance_share, impedance_of_rating, susceptance_of_rating, percent_per_unit, inverse_ratio};
 ghost use Rattle.element_expansion.specs.Small.{IsSmall};
 
 use exact_fraction::Fraction;
@@ -28,7 +28,7 @@ pub fn kv(study: &Study, bus: u32) -> Decimal
 }
 
 /// The product of two decimals, in units of 10^-12.
-fn product(a: Decimal, b: Decimal) -> i128
+pub fn product(a: Decimal, b: Decimal) -> i128
     ensures value { result ≡ a *ℤ b }
     ensures bound { unsigned_abs result < 2 ^ 80 }
 {
@@ -57,7 +57,7 @@ fn kv_square(kv: Decimal) -> i128
 }
 
 /// A decimal times a number of at most 4·10^18.
-fn times(d: Decimal, number: i128) -> i128
+pub fn times(d: Decimal, number: i128) -> i128
     requires { unsigned_abs number ≤ 4000000000000000000 }
     ensures value { result ≡ d *ℤ number }
     ensures bound { unsigned_abs result < 2 ^ 105 }
@@ -67,7 +67,7 @@ fn times(d: Decimal, number: i128) -> i128
 
 /// A decimal above 0 times a number above 0.
 #[tactic(auto, using(crate::proofs::Values::product_above, crate::proofs::Values::product_size))]
-fn scaled(d: Decimal, number: i128) -> i128
+pub fn scaled(d: Decimal, number: i128) -> i128
     requires positive { pos 1 ≤ℤ d }
     requires number { pos 1 ≤ℤ number }
     requires small { unsigned_abs number ≤ 4000000000000000000 }
@@ -78,8 +78,46 @@ fn scaled(d: Decimal, number: i128) -> i128
     times(d, number)
 }
 
+/// A number of at least 1 and at most 2^94 times a count of at most 128.
+#[tactic(auto, using(crate::proofs::Values::times_parts))]
+fn times_parts(number: i128, parts: u32) -> i128
+    requires positive { pos 1 ≤ℤ number }
+    requires small { unsigned_abs number ≤ 2 ^ 94 }
+    requires some { 1 ≤ parts }
+    requires few { parts ≤ 128 }
+    ensures value { result ≡ number *ℤ pos parts }
+    ensures bound { unsigned_abs result < 2 ^ 105 }
+{
+    number * i128::from(parts)
+}
+
+/// The same, as a number of at least 1.
+#[tactic(auto, using(crate::proofs::Values::product_above, crate::proofs::Values::product_size))]
+fn in_parts(number: i128, parts: u32) -> i128
+    requires positive { pos 1 ≤ℤ number }
+    requires small { unsigned_abs number ≤ 2 ^ 94 }
+    requires some { 1 ≤ parts }
+    requires few { parts ≤ 128 }
+    ensures value { unsigned_abs result ≡ unsigned_abs number * parts }
+    ensures bound { unsigned_abs result < 2 ^ 105 }
+    ensures positive { pos 1 ≤ℤ result }
+{
+    times_parts(number, parts)
+}
+
+/// The base MVA with the units of microsiemens and of two voltages.
+#[tactic(auto, using(crate::proofs::Values::base_above))]
+fn base_of_siemens(mva: Decimal) -> i128
+    requires { IsIn BASE_MVA mva }
+    ensures value { unsigned_abs result ≡ unsigned_abs mva * 10 ^ 18 }
+    ensures bound { unsigned_abs result ≤ 2 ^ 94 }
+    ensures positive { pos 1 ≤ℤ result }
+{
+    i128::from(mva.millionths) * MICROSIEMENS_MILLIONTHS
+}
+
 /// The fraction of two numbers below 2^105 in size.
-fn small(num: i128, den: i128) -> Fraction
+pub fn small(num: i128, den: i128) -> Fraction
     requires num { unsigned_abs num < 2 ^ 105 }
     requires den { unsigned_abs den < 2 ^ 105 }
     requires positive { pos 1 ≤ℤ den }
@@ -118,6 +156,36 @@ pub fn impedance(z: Decimal, mva: Decimal, kv: Decimal) -> Fraction
     small(product(z, mva), square(kv))
 }
 
+/// One of so many equal parts in series of an impedance of `z` ohms at a bus of `kv`, in per unit: z·s/(v²·n).
+#[tactic(auto, unfolding(crate::specs::PerUnit::impedance_share))]
+pub fn impedance_share(z: Decimal, mva: Decimal, kv: Decimal, parts: u32) -> Fraction
+    requires kv { pos 1 ≤ℤ kv }
+    requires some { 1 ≤ parts }
+    requires few { parts ≤ 128 }
+    ensures value { ratio_of result ≡ impedance_share z mva kv parts }
+    ensures small { IsSmall (ratio_of result) }
+{
+    small(product(z, mva), in_parts(square(kv), parts))
+}
+
+/// Three times a decimal, times another.
+fn triple(a: Decimal, b: Decimal) -> i128
+    ensures value { result ≡ (pos 3 *ℤ a) *ℤ b }
+    ensures bound { unsigned_abs result < 2 ^ 105 }
+{
+    (3 * i128::from(a.millionths)) * i128::from(b.millionths)
+}
+
+/// Three times an impedance of `z` ohms at a bus of `kv`, in per unit: 3·z·s/v².
+#[tactic(auto, unfolding(crate::specs::PerUnit::impedance_per_unit))]
+pub fn triple_impedance(z: Decimal, mva: Decimal, kv: Decimal) -> Fraction
+    requires { pos 1 ≤ℤ kv }
+    ensures value { ratio_of result ≡ impedance_per_unit (pos 3 *ℤ z) mva kv }
+    ensures small { IsSmall (ratio_of result) }
+{
+    small(triple(z, mva), square(kv))
+}
+
 /// The impedance of a rating in MW or MVAr, in per unit: s/q.
 #[tactic(auto, unfolding(crate::specs::PerUnit::impedance_of_rating))]
 pub fn impedance_of_rating(rating: Decimal, mva: Decimal) -> Fraction
@@ -138,18 +206,30 @@ pub fn susceptance_of_rating(rating: Decimal, mva: Decimal) -> Fraction
     small(i128::from(rating.millionths), i128::from(mva.millionths))
 }
 
-/// A susceptance of `b` microsiemens at a bus of `kv`, in per unit: b·v²/(s·10^18).
-#[tactic(auto, unfolding(crate::specs::PerUnit::susceptance_per_unit))]
-pub fn susceptance(b: Decimal, mva: Decimal, kv: Decimal) -> Fraction
-    requires mva { pos 1 ≤ℤ mva }
+/// One of so many equal parts side by side of a susceptance of `b` microsiemens at a bus of `kv`, in per unit: b·v²/(s·10^18·n).
+#[tactic(auto, unfolding(crate::specs::PerUnit::susceptance_share))]
+pub fn susceptance_share(b: Decimal, mva: Decimal, kv: Decimal, parts: u32) -> Fraction
+    requires mva { IsIn BASE_MVA mva }
     requires kv { IsIn BUS_KV kv }
-    ensures value { ratio_of result ≡ susceptance_per_unit b mva kv }
+    requires some { 1 ≤ parts }
+    requires few { parts ≤ 128 }
+    ensures value { ratio_of result ≡ susceptance_share b mva kv parts }
     ensures small { IsSmall (ratio_of result) }
 {
     small(
         times(b, kv_square(kv)),
-        scaled(mva, MICROSIEMENS_MILLIONTHS),
+        in_parts(base_of_siemens(mva), parts),
     )
+}
+
+/// One over a transformer's ratio: 1/t.
+#[tactic(auto, unfolding(crate::specs::PerUnit::inverse_ratio))]
+pub fn inverse_ratio(ratio: Decimal) -> Fraction
+    requires { pos 1 ≤ℤ ratio }
+    ensures value { ratio_of result ≡ inverse_ratio ratio }
+    ensures small { IsSmall (ratio_of result) }
+{
+    small(MILLION, i128::from(ratio.millionths))
 }
 
 /// `z` percent on a transformer's own rating, in per unit: z·s/(10^8·t).

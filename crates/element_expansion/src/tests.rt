@@ -1,7 +1,7 @@
 // Values in per unit worked by hand, for a base of 100 MVA.
 use crate::{
-    as_written, between, impedance, impedance_of_rating, percent, series, susceptance,
-    susceptance_of_rating, to_ground, zero,
+    as_written, between, impedance, impedance_of_rating, impedance_share, inverse_ratio, percent,
+    series, susceptance_of_rating, susceptance_share, to_ground, triple_impedance, zero,
 };
 use exact_fraction::Fraction;
 use fixed_decimal::Decimal;
@@ -28,8 +28,8 @@ fn is_value(x: Fraction, n: i64, d: i64) -> Result<bool, Fail> {
     Ok(below && above)
 }
 
-// 4 ohms at 33 kV are 400/1089; a rating of 4 is 25 as an impedance and 0.04 as a susceptance; 4 microsiemens at 33 kV are 0.00004356;
-// 4 percent on 33 MVA are 4/33.
+// 4 ohms at 33 kV are 400/1089; a rating of 4 is 25 as an impedance and 0.04 as a susceptance; 4 percent on
+// 33 MVA are 4/33.
 #[test]
 fn values_in_per_unit(rt: HostRuntime) -> Result<(), Fail> {
     assert!(rt; is_value(as_written(FOUR), 4, 1)?);
@@ -37,8 +37,17 @@ fn values_in_per_unit(rt: HostRuntime) -> Result<(), Fail> {
     assert!(rt; is_value(impedance(FOUR, BASE, KV33), 400, 1_089)?);
     assert!(rt; is_value(impedance_of_rating(FOUR, BASE), 25, 1)?);
     assert!(rt; is_value(susceptance_of_rating(FOUR, BASE), 1, 25)?);
-    assert!(rt; is_value(susceptance(FOUR, BASE, KV33), 4_356, 100_000_000)?);
     assert!(rt; is_value(percent(FOUR, BASE, KV33), 4, 33)?);
+    Ok(())
+}
+
+// A quarter of 4 ohms, and three times as much as they are; half of 4 microsiemens at 33 kV, which are 0.00004356; and 1/4.
+#[test]
+fn parts_and_multiples(rt: HostRuntime) -> Result<(), Fail> {
+    assert!(rt; is_value(impedance_share(FOUR, BASE, KV33, 4), 100, 1_089)?);
+    assert!(rt; is_value(triple_impedance(FOUR, BASE, KV33), 1_200, 1_089)?);
+    assert!(rt; is_value(susceptance_share(FOUR, BASE, KV33, 2), 2_178, 100_000_000)?);
+    assert!(rt; is_value(inverse_ratio(FOUR), 1, 4)?);
     Ok(())
 }
 

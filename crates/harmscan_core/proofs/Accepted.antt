@@ -8,10 +8,10 @@ use Rattle.study_reader.proofs.Refusals.{same_study, not_refused as not_unread, 
 use Rattle.sequence_network.specs.Refusals.{IsLiveRefusal}
 use Rattle.harmscan_core.specs.Accepted.{IsAccepted, IsRefused, unread, network}
 use Rattle.sequence_network.proofs.Liveness.{no_refusal}
+use Rattle.sequence_network.proofs.LiveRefusals.{same_live_refusal}
 use Rattle.harmscan_core.specs.Outcome.{ReadsStudy, RefusesNetworks, longest_file}
 use Rattle.harmscan_core.specs.declared.outcome.Outcome.{Outcome}
 use Rattle.harmscan_core.specs.declared.outcome.Outcome.TheVariants.{WordsRefused, ReadFailed, TooLarge, Refused, WriteFailed, NoMemory, Written}
-use Rattle.harmscan_core.proofs.LiveRefusals.{same_live_refusal}
 
 pub same_accepted : (bytes : List ℕ) (s t : Study) → IsAccepted bytes s → IsAccepted bytes t → s ≡ t
 same_accepted bytes s t a b = same_study bytes s t a.read b.read

@@ -1,12 +1,10 @@
 pub mod WordCounts
 pub mod Rows
 pub mod Causes
-pub mod LiveRefusals
 pub mod Accepted
 pub mod Complete
 pub mod BoxCount
 pub mod NodeOrders
-pub mod Uncoupled
 pub mod StudyFacts
 pub mod WholeReport
 pub mod Written

@@ -32,9 +32,7 @@ use Rattle.net_branch.specs.declared.fault.AddFault.{AddFault}
 use Rattle.net_branch.specs.declared.fault.AddFault.TheVariants.{TooMany, NoMemory}
 use Rattle.element_expansion.specs.Expansion.{is_too_large}
 use Rattle.element_expansion.proofs.Values.{kv_within}
-use Rattle.study_reader.specs.Built.{IsBuilt}
-use Rattle.study_reader.proofs.Forms.{form_of}
-use Rattle.sequence_network.specs.Networks.{HasBuiltElements, network_of}
+use Rattle.sequence_network.specs.Networks.{network_of}
 use Rattle.sequence_network.specs.Refusals.{IsLiveScan, HasLiveNetworks}
 use Rattle.harmscan_core.specs.Scan.{spec_of, order_of, test_of, boxes_in}
 use Rattle.harmscan_core.specs.Claim.{looked_at, HoldsOfScan, HoldsOfStudy}
@@ -66,10 +64,6 @@ spec_in_range study scan b s =
 
 band_testable : (spec : ScanSpec) → IsScanSpec spec → IsTestable spec.from spec.to
 band_testable spec s = record { above = s.above; ordered = omega (arith, s.band); below = s.below }
-
--- the kinds of elements that are built
-pub built_elements : (study : Study) → IsBuilt study → HasBuiltElements study
-built_elements study b = let form = form_of study b in record { lines = form.lines; transformers = form.transformers; filters = form.filters }
 
 -- ---- live buses
 live_at : (study : Study) (bus : ℕ) (sequence : Sequence) → HasLiveNetworks study → bus < length study.buses → (sequence ≡ Zero → Live (network_of study Zero) bus) → Live (network_of study sequence) bus

@@ -1,3 +1,4 @@
 pub mod LawLists
-pub mod Elements
 pub mod NotZero
+pub mod Filters
+pub mod TunedValues

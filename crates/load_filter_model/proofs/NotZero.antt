@@ -1,10 +1,9 @@
 -- The laws of the elements of a lawful study aren't zero.
-use Rattle.std.proofs.Common.{◌≡◌, ◌++◌, zero, suc, ℤ, pos, negsuc, ◌*ℤ◌, ◌≤ℤ◌, Bool, true, false, List, [], ◌∷◌, refl, arith}
+use Rattle.std.proofs.Common.{pos, ◌*ℤ◌, ◌≤ℤ◌, ℤ, Bool, [], ◌∷◌, arith}
 use Rattle.std.proofs.lemmas.Int.{ints}
 use Rattle.std.specs.Prelude.{Option, Some, None, if◌then◌else◌, int_lt}
-use Rattle.std.specs.List.{AllByRecursion}
 use Rattle.exact_algebra.specs.Ratio.{whole}
-use Rattle.network_theory.specs.Branch.{Law, Shunt}
+use Rattle.network_theory.specs.Branch.{Shunt}
 use Rattle.study_model.specs.Rules.{AreNotBothZero, IsZeroSequence, IsImpedance}
 use Rattle.study_model.specs.Lawful.{IsLawfulSource}
 use Rattle.study_model.specs.declared.words.Sequence.{Sequence}
@@ -14,75 +13,54 @@ use Rattle.study_model.specs.declared.words.LoadModel.TheVariants as load_model
 use Rattle.study_model.specs.declared.records.Source.{Source}
 use Rattle.study_model.specs.declared.records.Study.{Study}
 use Rattle.element_expansion.specs.PerUnit.{impedance_per_unit, impedance_of_rating, susceptance_of_rating, cigre_series_reactance, cigre_parallel_reactance}
-use Rattle.element_expansion.specs.Expansion.{source_series, source_laws, law_where, series, cigre_laws, resistance_laws, reactance_laws, parallel_laws, load_laws}
-use Rattle.load_filter_model.specs.Laws.{IsUncoupledLaw}
+use Rattle.element_expansion.specs.Expansion.{source_series, source_laws, series, cigre_laws, resistance_laws, reactance_laws, parallel_laws, load_laws}
+use Rattle.element_expansion.specs.Plain.{IsPlainLaw, ArePlainLaws}
+use Rattle.element_expansion.proofs.PlainLaws.{multiples, not_nought, plain_where, plain_if, plain_append}
 
--- a product that is 0, of a number and one above 0
-factor_zero : (z s : ℤ) → pos 1 ≤ℤ s → z *ℤ s ≡ pos 0 → z ≡ pos 0
-factor_zero (pos zero) (pos (suc n)) h e = refl
-factor_zero (pos (suc k)) (pos (suc n)) h e = absurd (omega (arith, ints))
-factor_zero (negsuc k) (pos (suc n)) h e = absurd (omega (arith, ints))
-factor_zero z (pos zero) h e = absurd (omega (arith, ints))
-factor_zero z (negsuc n) h e = absurd (omega (arith, ints))
-
--- of two values that aren't both 0, the multiples aren't both 0
-multiples : (s r x : ℤ) → pos 1 ≤ℤ s → AreNotBothZero r x → ¬ ((r *ℤ s ≡ pos 0) × (x *ℤ s ≡ pos 0))
-multiples s r x h n e = n (factor_zero r s h e.0, factor_zero x s h e.1)
-
-not_nought : (s : ℤ) → pos 1 ≤ℤ s → ¬ (s ≡ pos 0)
-not_nought s h e = omega (arith, ints)
-
-source_there : (study : Study) (e : Source) (r x : ℤ) → pos 1 ≤ℤ study.mva → AreNotBothZero r x → IsUncoupledLaw (source_series study e r x)
+source_there : (study : Study) (e : Source) (r x : ℤ) → pos 1 ≤ℤ study.mva → AreNotBothZero r x → IsPlainLaw (source_series study e r x)
 unfolding impedance_per_unit
 source_there study e r x h n z = multiples study.mva r x h n (z.0, z.1)
 
-sources : (study : Study) (e : Source) (sequence : Sequence) (r0 x0 : Option ℤ) → pos 1 ≤ℤ study.mva → AreNotBothZero e.r e.x → IsZeroSequence r0 x0 → AllByRecursion IsUncoupledLaw (source_laws study e sequence r0 x0)
+sources : (study : Study) (e : Source) (sequence : Sequence) (r0 x0 : Option ℤ) → pos 1 ≤ℤ study.mva → AreNotBothZero e.r e.x → IsZeroSequence r0 x0 → ArePlainLaws (source_laws study e sequence r0 x0)
 sources study e Positive r0 x0 h n z = (source_there study e e.r e.x h n, tt)
 sources study e Zero (Some r0) (Some x0) h n z = (source_there study e r0 x0 h z.2, tt)
 sources study e Zero (Some r0) None h n z = tt
 sources study e Zero None x0 h n z = tt
 
-pub source_not_zero : (study : Study) (e : Source) (sequence : Sequence) → pos 1 ≤ℤ study.mva → IsLawfulSource study.buses e → AllByRecursion IsUncoupledLaw (source_laws study e sequence e.r0 e.x0)
+pub source_not_zero : (study : Study) (e : Source) (sequence : Sequence) → pos 1 ≤ℤ study.mva → IsLawfulSource study.buses e → ArePlainLaws (source_laws study e sequence e.r0 e.x0)
 source_not_zero study e sequence h l = sources study e sequence e.r0 e.x0 h l.x.1 l.r0_x0
 
-where_there : (b : Bool) (law : Law) → IsUncoupledLaw law → AllByRecursion IsUncoupledLaw (law_where b law)
-where_there true law h = (h, tt)
-where_there false law h = tt
-
-both_there : (xs ys : List Law) → AllByRecursion IsUncoupledLaw xs → AllByRecursion IsUncoupledLaw ys → AllByRecursion IsUncoupledLaw (xs ++ ys)
-both_there [] ys h k = k
-both_there (x ∷ xs) ys h k = (h.0, both_there xs ys h.1 k)
-
 -- a rating's impedance as a resistance or as a reactance
-resistance_there : (p s : ℤ) → pos 1 ≤ℤ s → IsUncoupledLaw (series (impedance_of_rating p s) (whole (pos 0)))
+resistance_there : (p s : ℤ) → pos 1 ≤ℤ s → IsPlainLaw (series (impedance_of_rating p s) (whole (pos 0)))
 unfolding impedance_of_rating
 resistance_there p s h z = not_nought s h z.0
 
-reactance_there : (q s : ℤ) → pos 1 ≤ℤ s → IsUncoupledLaw (series (whole (pos 0)) (impedance_of_rating q s))
+reactance_there : (q s : ℤ) → pos 1 ≤ℤ s → IsPlainLaw (series (whole (pos 0)) (impedance_of_rating q s))
 unfolding impedance_of_rating
 reactance_there q s h z = not_nought s h z.1
 
-motor_there : (p s : ℤ) → pos 1 ≤ℤ s → IsUncoupledLaw (series (impedance_of_rating p s) (cigre_series_reactance p s))
+motor_there : (p s : ℤ) → pos 1 ≤ℤ s → IsPlainLaw (series (impedance_of_rating p s) (cigre_series_reactance p s))
 unfolding impedance_of_rating
 motor_there p s h z = not_nought s h z.0
 
-beside_there : (p q s : ℤ) → pos 1 ≤ℤ s → IsUncoupledLaw (series (whole (pos 0)) (cigre_parallel_reactance p q s))
+beside_there : (p q s : ℤ) → pos 1 ≤ℤ s → IsPlainLaw (series (whole (pos 0)) (cigre_parallel_reactance p q s))
 unfolding cigre_parallel_reactance
 beside_there p q s h z = not_nought s h (omega (arith, ints, z.1))
 
-ohms_there : (r x s v : ℤ) → pos 1 ≤ℤ s → AreNotBothZero r x → IsUncoupledLaw (series (impedance_per_unit r s v) (impedance_per_unit x s v))
+ohms_there : (r x s v : ℤ) → pos 1 ≤ℤ s → AreNotBothZero r x → IsPlainLaw (series (impedance_per_unit r s v) (impedance_per_unit x s v))
 unfolding impedance_per_unit
 ohms_there r x s v h n z = multiples s r x h n (z.0, z.1)
 
-cigre_there : (s p q : ℤ) → pos 1 ≤ℤ s → AllByRecursion IsUncoupledLaw (cigre_laws s p q)
-cigre_there s p q h = (motor_there p s h, where_there (int_lt (pos 74 *ℤ p) (pos 670 *ℤ q)) (series (whole (pos 0)) (cigre_parallel_reactance p q s)) (beside_there p q s h))
+cigre_there : (s p q : ℤ) → pos 1 ≤ℤ s → ArePlainLaws (cigre_laws s p q)
+cigre_there s p q h =
+    (motor_there p s h, plain_where (int_lt (pos 74 *ℤ p) (pos 670 *ℤ q)) (series (whole (pos 0)) (cigre_parallel_reactance p q s)) (λ e. beside_there p q s h))
 
-parallel_there : (s p q : ℤ) → pos 1 ≤ℤ s → AllByRecursion IsUncoupledLaw (parallel_laws s p q)
-parallel_there s p q h = both_there (resistance_laws s p) (reactance_laws s q)
-    (where_there (int_lt (pos 0) p) (series (impedance_of_rating p s) (whole (pos 0))) (resistance_there p s h))
-    (where_there (int_lt (pos 0) q) (series (whole (pos 0)) (impedance_of_rating q s)) (reactance_there q s h))
+parallel_there : (s p q : ℤ) → pos 1 ≤ℤ s → ArePlainLaws (parallel_laws s p q)
+parallel_there s p q h = plain_append (resistance_laws s p) (reactance_laws s q)
+    (plain_where (int_lt (pos 0) p) (series (impedance_of_rating p s) (whole (pos 0))) (λ e. resistance_there p s h))
+    (plain_where (int_lt (pos 0) q) (series (whole (pos 0)) (impedance_of_rating q s)) (λ e. reactance_there q s h))
 
-pub load_not_zero : (s v : ℤ) (m : LoadModel) (p q r x : Option ℤ) → pos 1 ≤ℤ s → IsImpedance m r x → AllByRecursion IsUncoupledLaw (load_laws s v m p q r x)
+pub load_not_zero : (s v : ℤ) (m : LoadModel) (p q r x : Option ℤ) → pos 1 ≤ℤ s → IsImpedance m r x → ArePlainLaws (load_laws s v m p q r x)
 load_not_zero s v load_model.Cigre (Some p) (Some q) r x h n = cigre_there s p q h
 load_not_zero s v load_model.Cigre (Some p) None r x h n = tt
 load_not_zero s v load_model.Cigre None q r x h n = tt
@@ -93,12 +71,6 @@ load_not_zero s v load_model.Series p q (Some r) (Some x) h n = (ohms_there r x 
 load_not_zero s v load_model.Series p q (Some r) None h n = tt
 load_not_zero s v load_model.Series p q None x h n = tt
 
--- laws that are there or not
-pub chosen : (b : Bool) (laws : List Law) → AllByRecursion IsUncoupledLaw laws → AllByRecursion IsUncoupledLaw (if b then laws else [])
-chosen true laws h = h
-chosen false laws h = tt
-
-pub bank_not_zero : (b : Bool) (q s : ℤ) → pos 1 ≤ℤ q → AllByRecursion IsUncoupledLaw (if b then Shunt (susceptance_of_rating q s) ∷ [] else [])
+pub bank_not_zero : (b : Bool) (q s : ℤ) → pos 1 ≤ℤ q → ArePlainLaws (if b then Shunt (susceptance_of_rating q s) ∷ [] else [])
 unfolding susceptance_of_rating
-bank_not_zero true q s h = ((λ z. not_nought q h z), tt)
-bank_not_zero false q s h = tt
+bank_not_zero b q s h = plain_if b (Shunt (susceptance_of_rating q s) ∷ []) ((λ z. not_nought q h z), tt)

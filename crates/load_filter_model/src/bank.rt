@@ -1,6 +1,8 @@
 // Capacitor banks.
 ghost use Rattle.std.specs.Prelude.{◌≡◌, ◌≢◌, ◌≤ℤ◌, pos, [], ◌∷◌, length, map, IsTrue, IsFalse, IfOk, IfErr, OnOk, OnErr, if◌then◌else◌};
+ghost use Rattle.std.specs.List.{AllByRecursion};
 ghost use Rattle.network_theory.specs.Branch.{Shunt};
+ghost use Rattle.network_theory.specs.Network.{IsUncoupled};
 ghost use Rattle.study_model.specs.Lawful.{IsLawful, IsLawfulBank};
 ghost use Rattle.net_branch.specs.Exact.{exact_law, exact_network};
 ghost use Rattle.net_branch.specs.Whole.{IsWholeNetwork};
@@ -39,7 +41,7 @@ fn bank_laws(
 /// Adds a capacitor bank: its susceptance from its bus to ground; in the zero network the same where it is grounded or has a phase,
 /// else nothing. `TooMany` exactly where the network would have more than 120 nodes or more than 800 branches. A refusal leaves the
 /// network as it was. (Arrillaga and Watson, Power System Harmonics.)
-#[tactic(auto, using(crate::proofs::LawLists::small_branches), unfolding(element_expansion::specs::Expansion::bank_expansion))]
+#[tactic(auto, using(element_expansion::proofs::SmallBranches::small_to_ground), unfolding(element_expansion::specs::Expansion::bank_expansion))]
 pub fn add_bank(
     alloc: Global,
     network: &mut Network,
@@ -56,6 +58,7 @@ pub fn add_bank(
     ensures fits { OnOk result (IsFalse (is_too_large (with_element (exact_network network.old) (bank_expansion study.now bank.now owner sequence)))) }
     ensures too_many { IfErr result (λ fault. fault ≢ NoMemory → IsTrue (is_too_large (with_element (exact_network network.old) (bank_expansion study.now bank.now owner sequence)))) }
     ensures small { OnOk result (HaveSmallLaws (bank_expansion study.now bank.now owner sequence).branches) }
+    ensures uncoupled { OnOk result (AllByRecursion IsUncoupled (bank_expansion study.now bank.now owner sequence).branches) }
     ensures unchanged { OnErr result (network.new ≡ network.old) }
     ensures whole { IsWholeNetwork network.new }
 {

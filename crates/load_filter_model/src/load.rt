@@ -1,6 +1,8 @@
 // Loads.
 ghost use Rattle.std.specs.Prelude.{◌≡◌, ◌≢◌, ◌<◌, ◌≤ℤ◌, ◌*ℤ◌, ◌-ℤ◌, pos, [], ◌∷◌, ◌++◌, length, map, Some, IsTrue, IsFalse, IfOk, IfErr, OnOk, OnErr, if◌then◌else◌};
+ghost use Rattle.std.specs.List.{AllByRecursion};
 ghost use Rattle.exact_fraction.specs.Fraction.{ratio_of};
+ghost use Rattle.network_theory.specs.Network.{IsUncoupled};
 ghost use Rattle.study_model.specs.Lawful.{IsLawful, IsLawfulLoad};
 ghost use Rattle.study_model.specs.Rules.{IsPower, IsImpedance};
 ghost use Rattle.study_model.specs.declared.words.LoadModel.TheVariants as load_model;
@@ -127,7 +129,7 @@ fn laws_in(
 /// Adds a load: the branches of its model from its bus to ground; in the zero network the same where it is grounded or has a phase, else
 /// nothing. `TooMany` exactly where the network would have more than 120 nodes or more than 800 branches. A refusal leaves the network as
 /// it was. (Arrillaga and Watson, Power System Harmonics; the CIGRE model with its coefficients 0.073, 6.7 and 0.74.)
-#[tactic(auto, using(crate::proofs::LawLists::small_branches, element_expansion::proofs::Values::kv_positive), unfolding(element_expansion::specs::Expansion::load_expansion))]
+#[tactic(auto, using(element_expansion::proofs::SmallBranches::small_to_ground, element_expansion::proofs::Values::kv_positive), unfolding(element_expansion::specs::Expansion::load_expansion))]
 pub fn add_load(
     alloc: Global,
     network: &mut Network,
@@ -144,6 +146,7 @@ pub fn add_load(
     ensures fits { OnOk result (IsFalse (is_too_large (with_element (exact_network network.old) (load_expansion study.now load.now owner sequence)))) }
     ensures too_many { IfErr result (λ fault. fault ≢ NoMemory → IsTrue (is_too_large (with_element (exact_network network.old) (load_expansion study.now load.now owner sequence)))) }
     ensures small { OnOk result (HaveSmallLaws (load_expansion study.now load.now owner sequence).branches) }
+    ensures uncoupled { OnOk result (AllByRecursion IsUncoupled (load_expansion study.now load.now owner sequence).branches) }
     ensures unchanged { OnErr result (network.new ≡ network.old) }
     ensures whole { IsWholeNetwork network.new }
 {

@@ -1,6 +1,8 @@
 // Sources.
 ghost use Rattle.std.specs.Prelude.{◌≡◌, ◌≢◌, ◌<◌, ◌≤ℤ◌, pos, length, map, IsTrue, IsFalse, IfOk, IfErr, OnOk, OnErr};
+ghost use Rattle.std.specs.List.{AllByRecursion};
 ghost use Rattle.exact_fraction.specs.Fraction.{ratio_of};
+ghost use Rattle.network_theory.specs.Network.{IsUncoupled};
 ghost use Rattle.study_model.specs.Lawful.{IsLawful, IsLawfulSource};
 ghost use Rattle.net_branch.specs.Exact.{exact_law, exact_network};
 ghost use Rattle.net_branch.specs.Whole.{IsWholeNetwork};
@@ -10,7 +12,7 @@ ghost use Rattle.element_expansion.specs.Small.{IsSmallLaw, AreSmallLaws, HaveSm
 ghost use Rattle.element_expansion.specs.Expansion.{source_series, source_laws, source_expansion, with_element, is_too_large};
 
 use crate::grounded::add_grounded;
-use element_expansion::{as_written, impedance, kv, zero};
+use element_expansion::{impedance, kv, skin_series};
 use fixed_decimal::Decimal;
 use net_branch::{AddFault, Law, Network};
 use sqlite_items::Items;
@@ -25,13 +27,12 @@ fn source_series(study: &Study, source: &Source, r: Decimal, x: Decimal) -> Law
     ensures small { IsSmallLaw (exact_law result) }
 {
     let kv = kv(study, source.bus);
-    Law::Series {
-        r: impedance(r, study.mva, kv),
-        k: as_written(source.skin_k),
-        m: as_written(source.skin_m),
-        x: impedance(x, study.mva, kv),
-        xc: zero(),
-    }
+    skin_series(
+        impedance(r, study.mva, kv),
+        source.skin_k,
+        source.skin_m,
+        impedance(x, study.mva, kv),
+    )
 }
 
 /// The law of a source's branch in a network, or none where it is open.
@@ -60,7 +61,7 @@ fn source_laws(
 /// Adds a source: its impedance from its bus to ground, with its skin coefficients; in the zero network its zero-sequence impedance
 /// where it is given, else nothing. `TooMany` exactly where the network would have more than 120 nodes or more than 800 branches. A
 /// refusal leaves the network as it was. (Arrillaga and Watson, Power System Harmonics.)
-#[tactic(auto, using(crate::proofs::LawLists::small_branches, element_expansion::proofs::Values::kv_positive), unfolding(element_expansion::specs::Expansion::source_expansion))]
+#[tactic(auto, using(element_expansion::proofs::SmallBranches::small_to_ground, element_expansion::proofs::Values::kv_positive), unfolding(element_expansion::specs::Expansion::source_expansion))]
 pub fn add_source(
     alloc: Global,
     network: &mut Network,
@@ -77,6 +78,7 @@ pub fn add_source(
     ensures fits { OnOk result (IsFalse (is_too_large (with_element (exact_network network.old) (source_expansion study.now source.now owner sequence)))) }
     ensures too_many { IfErr result (λ fault. fault ≢ NoMemory → IsTrue (is_too_large (with_element (exact_network network.old) (source_expansion study.now source.now owner sequence)))) }
     ensures small { OnOk result (HaveSmallLaws (source_expansion study.now source.now owner sequence).branches) }
+    ensures uncoupled { OnOk result (AllByRecursion IsUncoupled (source_expansion study.now source.now owner sequence).branches) }
     ensures unchanged { OnErr result (network.new ≡ network.old) }
     ensures whole { IsWholeNetwork network.new }
 {

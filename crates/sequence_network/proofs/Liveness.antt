@@ -1,5 +1,5 @@
 -- Live networks, and the refusals of others.
-use Rattle.std.proofs.Common.{◌≡◌, ◌∙◌, ℕ, zero, suc, ◌+◌, ◌≤◌, ◌<◌, List, [], ◌∷◌, length, get_or, ap, sym, subst, refl, arith}
+use Rattle.std.proofs.Common.{◌≡◌, ℕ, zero, suc, ◌+◌, ◌≤◌, ◌<◌, List, [], ◌∷◌, length, get_or, ap, sym, subst, refl, arith}
 use Rattle.std.specs.Prelude.{All, IsSomeAnd, slice_get}
 use Rattle.std.proofs.lemmas.Option.{slice_get-get_or, slice_get_read}
 use Rattle.network_theory.specs.Network.{Network}
@@ -10,8 +10,8 @@ use Rattle.study_model.specs.declared.words.Sequence.TheVariants.{Positive, Zero
 use Rattle.study_model.specs.declared.fault.StudyFault.{StudyFault}
 use Rattle.study_model.specs.declared.records.ScanItem.{ScanItem}
 use Rattle.study_model.specs.declared.records.Study.{Study}
-use Rattle.element_expansion.specs.Expansion.{Expansion, with_element, source_expansion, load_expansion, bank_expansion}
-use Rattle.sequence_network.specs.Networks.{with_elements, with_sources, with_loads, bus_nodes, first_load, first_bank, network_of}
+use Rattle.element_expansion.specs.Expansion.{with_element}
+use Rattle.sequence_network.specs.Networks.{StudyElement, expansion_of, elements_of, with_elements, bus_nodes, network_of}
 use Rattle.sequence_network.specs.Refusals.{IsLiveScan, IsFloatingBus, IsFloatingScan, AreLiveBuses, IsLiveRefusal, HasLiveNetworks}
 use Rattle.sequence_network.specs.Refusals.IsFloatingBus.{floating_bus}
 use Rattle.sequence_network.specs.Refusals.IsFloatingScan.{floating_scan}
@@ -31,7 +31,7 @@ not_all P (x ∷ xs) zero all h = h (all 0 x (omega arith))
 not_all P (x ∷ xs) (suc n) all h = not_all P xs n (λ k d l. all (suc k) d (omega arith)) h
 
 -- a study without refusal
-no_floating_bus : (study : Study) (fault : StudyFault) → AreLiveBuses study → IsFloatingBus (network_of study Positive) (length study.buses) fault → ⊥
+pub no_floating_bus : (study : Study) (fault : StudyFault) → AreLiveBuses study → IsFloatingBus (network_of study Positive) (length study.buses) fault → ⊥
 no_floating_bus study _ h (floating_bus n l before dead) = dead (h n l)
 
 no_floating_scan : (study : Study) (fault : StudyFault) → All (IsLiveScan (network_of study Zero)) study.scans → IsFloatingScan (network_of study Zero) study.scans fault → ⊥
@@ -44,16 +44,13 @@ no_refusal study h _ (bus fault room f) = no_floating_bus study fault h.buses f
 no_refusal study h _ (scan fault room live f) = no_floating_scan study fault h.scans f
 
 -- the bus nodes of a network are the study's buses
-same_buses : {A : Type 0} (expansion : ℕ → A → ℕ → Expansion) (n : Network) (owner : ℕ) (xs : List A) → (with_elements expansion n owner xs).buses ≡ n.buses
-same_buses expansion n owner [] = refl
-same_buses expansion n owner (x ∷ xs) = same_buses expansion (with_element n (expansion n.nodes x owner)) (owner + 1) xs
+same_buses : (study : Study) (sequence : Sequence) (n : Network) (owner : ℕ) (xs : List StudyElement) → (with_elements study sequence n owner xs).buses ≡ n.buses
+same_buses study sequence n owner [] = refl
+same_buses study sequence n owner (x ∷ xs) = same_buses study sequence (with_element n (expansion_of study sequence n.nodes x owner)) (owner + 1) xs
 
 pub buses_of : (study : Study) (sequence : Sequence) → (network_of study sequence).buses ≡ length study.buses
 unfolding network_of
-buses_of study sequence =
-    same_buses (λ next e owner. bank_expansion study e owner sequence) (with_loads study sequence) (first_bank study) study.banks
-    ∙ same_buses (λ next e owner. load_expansion study e owner sequence) (with_sources study sequence) (first_load study) study.loads
-    ∙ same_buses (λ next e owner. source_expansion study e owner sequence) (bus_nodes study) 1 study.sources
+buses_of study sequence = same_buses study sequence (bus_nodes study) 1 (elements_of study)
 
 -- so many nodes hold the study's buses
 pub buses_within : (study : Study) (sequence : Sequence) (n : Network) → n ≡ network_of study sequence → n.buses ≤ n.nodes → length study.buses ≤ n.nodes

@@ -1,14 +1,16 @@
 // The network of a study.
 ghost use Rattle.std.specs.Prelude.{◌≡◌, ◌≢◌, IsTrue, IsFalse, IfOk, IfErr, OnOk};
+ghost use Rattle.std.specs.List.{AllByRecursion};
+ghost use Rattle.network_theory.specs.Network.{IsUncoupled};
 ghost use Rattle.study_model.specs.Lawful.{IsLawful};
 ghost use Rattle.net_branch.specs.Exact.{exact_network};
 ghost use Rattle.net_branch.specs.Whole.{IsWholeNetwork};
 ghost use Rattle.net_branch.specs.declared.fault.AddFault.TheVariants.{NoMemory};
 ghost use Rattle.element_expansion.specs.Small.{HaveSmallLaws};
 ghost use Rattle.element_expansion.specs.Expansion.{is_too_large};
-ghost use Rattle.sequence_network.specs.Networks.{HasBuiltElements, network_of};
+ghost use Rattle.sequence_network.specs.Networks.{network_of};
 
-use crate::elements::add_elements;
+use crate::elements::add_section;
 use net_branch::{AddFault, Network, new_network};
 use std::alloc::Global;
 use study_model::{Sequence, Study};
@@ -17,11 +19,11 @@ use study_model::{Sequence, Study};
 /// count from 1 over sources, lines, transformers, loads, banks and filters. `TooMany` exactly where it has more than 120 nodes or more
 /// than 800 branches. (Arrillaga and Watson, Power System Harmonics.)
 pub fn build_sequence(alloc: Global, study: &Study, sequence: Sequence) -> Result<Network, AddFault>
-    requires lawful { IsLawful study.now }
-    requires built { HasBuiltElements study.now }
+    requires { IsLawful study.now }
     ensures network { IfOk result (λ network. exact_network network ≡ network_of study.now sequence) }
     ensures whole { IfOk result IsWholeNetwork }
     ensures small { OnOk result (HaveSmallLaws (network_of study.now sequence).branches) }
+    ensures uncoupled { OnOk result (AllByRecursion IsUncoupled (network_of study.now sequence).branches) }
     ensures fits { OnOk result (IsFalse (is_too_large (network_of study.now sequence))) }
     ensures too_many { IfErr result (λ fault. fault ≢ NoMemory → IsTrue (is_too_large (network_of study.now sequence))) }
 {
@@ -29,13 +31,18 @@ pub fn build_sequence(alloc: Global, study: &Study, sequence: Sequence) -> Resul
     let Ok(mut network) = new_network(alloc, buses) else {
         return Err(AddFault::NoMemory);
     };
-    let sources = study.sources.as_slice();
-    let loads = study.loads.as_slice();
-    let banks = study.banks.as_slice();
-    let first_load = 1 + sources.len() as u32;
-    let first_bank = first_load + loads.len() as u32;
-    add_elements(alloc, &mut network, study, sources, 1, sequence)?;
-    add_elements(alloc, &mut network, study, loads, first_load, sequence)?;
-    add_elements(alloc, &mut network, study, banks, first_bank, sequence)?;
+    let line = add_section(alloc, &mut network, study, &study.sources, 1, sequence)?;
+    let transformer = add_section(alloc, &mut network, study, &study.lines, line, sequence)?;
+    let load = add_section(
+        alloc,
+        &mut network,
+        study,
+        &study.transformers,
+        transformer,
+        sequence,
+    )?;
+    let bank = add_section(alloc, &mut network, study, &study.loads, load, sequence)?;
+    let filter = add_section(alloc, &mut network, study, &study.banks, bank, sequence)?;
+    add_section(alloc, &mut network, study, &study.filters, filter, sequence)?;
     Ok(network)
 }

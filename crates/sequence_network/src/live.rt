@@ -9,7 +9,7 @@ ghost use Rattle.net_branch.specs.Exact.{exact_network};
 ghost use Rattle.net_branch.specs.LiveNodes.{AreLive};
 ghost use Rattle.net_branch.specs.Whole.{IsWholeNetwork};
 ghost use Rattle.element_expansion.specs.Expansion.{is_too_large};
-ghost use Rattle.sequence_network.specs.Networks.{HasBuiltElements, network_of};
+ghost use Rattle.sequence_network.specs.Networks.{network_of};
 ghost use Rattle.sequence_network.specs.Refusals.{network_place, bus_place, scan_place, IsLiveScan, IsFloatingBus, IsFloatingScan, IsLiveRefusal, HasLiveNetworks};
 
 use crate::build::build_sequence;
@@ -19,8 +19,7 @@ use study_model::{Key, Place, ScanItem, Section, Sequence, Study, StudyFault};
 
 /// The network of a sequence, or why the study is refused for it.
 fn network(alloc: Global, study: &Study, sequence: Sequence) -> Result<Network, StudyFault>
-    requires lawful { IsLawful study.now }
-    requires built { HasBuiltElements study.now }
+    requires { IsLawful study.now }
     ensures network { IfOk result (λ network. exact_network network ≡ network_of study.now sequence) }
     ensures whole { IfOk result IsWholeNetwork }
     ensures fits { OnOk result (IsFalse (is_too_large (network_of study.now sequence))) }
@@ -97,8 +96,7 @@ fn check_scans(network: &Network, live: &[bool], scans: &[ScanItem]) -> Result<(
 /// positive and then of the zero network; `Floating` of the first bus that isn't live in the positive network; `Floating` of the first
 /// scan of the zero network whose bus isn't live there. (This project's own.)
 pub fn check_live(alloc: Global, study: &Study) -> Result<(), StudyFault>
-    requires lawful { IsLawful study.now }
-    requires built { HasBuiltElements study.now }
+    requires { IsLawful study.now }
     ensures ok { OnOk result (HasLiveNetworks study.now) }
     ensures refused { IfErr result (λ fault. fault ≢ NoMemory → IsLiveRefusal study.now fault) }
     ensures none { OnOk result ((fault : StudyFault) → ¬ (IsLiveRefusal study.now fault)) }

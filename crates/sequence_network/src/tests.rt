@@ -1,7 +1,6 @@
 // Studies of two buses, worked by hand.
 ghost use Rattle.std.specs.Prelude.{◌≡◌, ◌≤◌, Some, None, IfOk};
 ghost use Rattle.study_model.specs.Lawful.{IsLawful};
-ghost use Rattle.sequence_network.specs.Networks.{HasBuiltElements};
 ghost use Rattle.sequence_network.specs.Worked.{worked_pair};
 
 use crate::{build_sequence, check_live};
@@ -128,8 +127,7 @@ fn study(
     scanned: Sequence,
 ) -> Result<Study, Fail>
     requires { bank_bus ≤ 1 }
-    ensures lawful { IfOk result IsLawful }
-    ensures built { IfOk result HasBuiltElements }
+    ensures { IfOk result IsLawful }
 {
     if zero_source {
         Ok(pair(alloc, Some(ONE), bank_bus, grounded, scanned)?)

@@ -3,4 +3,3 @@ pub mod Rules
 pub mod Fresh
 pub mod Parts
 pub mod Refusals
-pub mod Forms

@@ -10,4 +10,3 @@ pub mod EntryNames
 pub mod Lawful
 pub mod Built
 pub mod StudyOf
-pub mod Form

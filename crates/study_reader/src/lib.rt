@@ -15,8 +15,6 @@ mod keys;
 mod loads;
 mod points;
 mod study;
-#[cfg(test)]
-mod tests;
 mod words;
 
 pub use study::read_study;

@@ -1,5 +1,5 @@
 // A whole study.
-ghost use Rattle.std.specs.Prelude.{◌≡◌, ◌≢◌, ◌<◌, ◌+◌, ◌^◌, ◌≤◌, ◌∷◌, [], ◌++◌, None, false, length, map, All, AllPairs, IfOk, IfErr, OnOk};
+ghost use Rattle.std.specs.Prelude.{◌≡◌, ◌≢◌, ◌<◌, ◌+◌, ◌*◌, ◌^◌, ◌≤◌, ◌∷◌, [], ◌++◌, None, false, length, map, All, AllPairs, IfOk, IfErr, OnOk};
 ghost use Rattle.toml.specs.Data.{table as table_data};
 ghost use Rattle.toml.specs.View.{view, items_view, table_view};
 ghost use Rattle.study_model.specs.declared.fault.StudyFault.TheVariants.{NoMemory};
@@ -156,7 +156,7 @@ fn plant_of(
     ensures lawful { IfOk result (IsLawfulPlant context.now.model context.now.buses) }
     ensures distinct { OnOk result (AllPairs ◌≢◌ names.new.items) }
     ensures named { IfOk result (λ plant. names.new.items ≡ names.old.items ++ names_in plant) }
-    ensures few_names { length names.new.items ≤ length names.old.items + 1200 }
+    ensures few_names { length names.new.items ≤ length names.old.items + 6 * MAX_ELEMENTS }
     ensures names { OnOk result (names.new.items ≡ plant_names names.old.items (view document.now)) }
     ensures read { Reads result (plant_fault context.now names.old.items (view document.now)) (plant_value context.now (view document.now)) }
 {

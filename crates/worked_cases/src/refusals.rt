@@ -248,7 +248,7 @@ pub const SOURCE_LISTS: [(&str, &str); 19] = [
 ];
 
 /// Lines, beside three buses and a source.
-pub const LINE_LISTS: [(&str, &str); 16] = [
+pub const LINE_LISTS: [(&str, &str); 15] = [
     (
         "line = [{ name = \"L1\", from = \"B1\", to = \"B9\", r = 0, x = 1 }]",
         "11 UnknownBus line 1 to",
@@ -308,10 +308,6 @@ pub const LINE_LISTS: [(&str, &str); 16] = [
     (
         "line = [{ name = \"L1\", from = \"B1\", to = \"B2\", r = 0, x = 1, skin_k = \"-0.000001\" }]",
         "8 OutOfRange line 1 skin_k",
-    ),
-    (
-        "line = [{ name = \"L1\", from = \"B1\", to = \"B2\", r = 0, x = 1 }]",
-        "17 NotBuilt line 1 -",
     ),
 ];
 
@@ -659,27 +655,19 @@ pub const PHASE_LISTS: [(&str, &str); 11] = [
 ];
 
 /// Lawful studies of forms that aren't built, beside three buses and a source at the first one.
-pub const OTHER_FORMS: [(&str, &str); 4] = [
+pub const OTHER_FORMS: [(&str, &str); 2] = [
     (
         "study = { version = 1, mva = 100, model = \"phases\" }\nline = [{ name = \"L1\", from = \"B1\", to = \"B2\", r = 0, x = 1, r0 = 0, x0 = 1 }]",
         "17 NotBuilt study 1 model",
     ),
     (
-        "study = { version = 1, mva = 100 }\nline = [{ name = \"L1\", from = \"B1\", to = \"B2\", r = 0, x = 1 }]\nfilter = [{ name = \"F1\", bus = \"B1\", kind = \"single\", q = 4, order = 5, quality = 50 }]",
-        "17 NotBuilt line 1 -",
-    ),
-    (
-        "study = { version = 1, mva = 100 }\ntransformer = [{ name = \"T1\", from = \"B1\", to = \"B3\", mva = 10, r = 0, x = 10 }]\nfilter = [{ name = \"F1\", bus = \"B1\", kind = \"single\", q = 4, order = 5, quality = 50 }]",
-        "17 NotBuilt transformer 1 -",
-    ),
-    (
-        "study = { version = 1, mva = 100 }\nfilter = [{ name = \"F1\", bus = \"B1\", kind = \"single\", q = 4, order = 5, quality = 50 }]",
-        "17 NotBuilt filter 1 -",
+        "study = { version = 1, mva = 100, model = \"phases\" }\nfilter = [{ name = \"F1\", bus = \"B1\", kind = \"single\", q = 4, order = 5, quality = 50 }]",
+        "17 NotBuilt study 1 model",
     ),
 ];
 
-/// Studies whose networks are refused: a bus or the bus of a zero scan that nothing ties to ground.
-pub const FLOATING: [(&str, &str); 7] = [
+/// Studies whose networks are refused: too large, or a bus or the bus of a zero scan that nothing ties to ground.
+pub const FLOATING: [(&str, &str); 12] = [
     ("bus = [{ name = \"B1\", kv = 10 }]", "15 Floating bus 1 -"),
     (
         "bus = [{ name = \"B1\", kv = 10 }, { name = \"B2\", kv = 10 }]\nsource = [{ name = \"S1\", bus = \"B1\", r = 0, x = 1 }]",
@@ -703,9 +691,33 @@ pub const FLOATING: [(&str, &str); 7] = [
         "bus = [{ name = \"B1\", kv = 10 }, { name = \"B2\", kv = 10 }]\nsource = [{ name = \"S1\", bus = \"B1\", r = 0, x = 1 }]\nscan = [{ name = \"s1\", bus = \"B1\", network = \"zero\", from = 1, to = 2, threshold = 20, finest = \"0.5\" }]",
         "15 Floating bus 2 -",
     ),
-    // A form that isn't built comes before the networks.
+    // The zero sequence doesn't pass from a grounded star to a delta, nor from a star.
     (
-        "bus = [{ name = \"B1\", kv = 10 }]\nfilter = [{ name = \"F1\", bus = \"B1\", kind = \"single\", q = 4, order = 5, quality = 50 }]",
-        "17 NotBuilt filter 1 -",
+        "bus = [{ name = \"HV\", kv = 10 }, { name = \"LV\", kv = 10 }]\nsource = [{ name = \"S1\", bus = \"HV\", r = 0, x = 1, r0 = 0, x0 = 1 }]\ntransformer = [{ name = \"T1\", from = \"HV\", to = \"LV\", mva = 10, r = 0, x = 10, from_conn = \"grounded\", to_conn = \"delta\" }]\nscan = [{ name = \"s1\", bus = \"LV\", network = \"zero\", from = 1, to = 10, threshold = 20, finest = \"0.001\" }]",
+        "15 Floating scan 1 bus",
+    ),
+    (
+        "bus = [{ name = \"HV\", kv = 10 }, { name = \"LV\", kv = 10 }]\nsource = [{ name = \"S1\", bus = \"LV\", r = 0, x = 1 }]\ntransformer = [{ name = \"T1\", from = \"HV\", to = \"LV\", mva = 10, r = 0, x = 10, to_conn = \"delta\" }]\nscan = [{ name = \"s1\", bus = \"HV\", network = \"zero\", from = 1, to = 10, threshold = 20, finest = \"0.001\" }]",
+        "15 Floating scan 1 bus",
+    ),
+    // A line without zero-sequence values is open there.
+    (
+        "bus = [{ name = \"B1\", kv = 10 }, { name = \"B2\", kv = 10 }]\nsource = [{ name = \"S1\", bus = \"B1\", r = 0, x = 1, r0 = 0, x0 = 1 }]\nline = [{ name = \"L1\", from = \"B1\", to = \"B2\", r = 0, x = 1, b = 1 }]\nscan = [{ name = \"s1\", bus = \"B2\", network = \"zero\", from = 1, to = 10, threshold = 20, finest = \"0.001\" }]",
+        "15 Floating scan 1 bus",
+    ),
+    // A filter that isn't grounded is open there too, and its inner node isn't added.
+    (
+        "bus = [{ name = \"B1\", kv = 10 }]\nfilter = [{ name = \"F1\", bus = \"B1\", kind = \"ctype\", q = 4, order = 5, quality = 2 }]\nscan = [{ name = \"s1\", bus = \"B1\", network = \"zero\", from = 1, to = 10, threshold = 20, finest = \"0.001\" }]",
+        "15 Floating scan 1 bus",
+    ),
+    // 2 buses and 63 and 56 inner nodes are one too many, and come before a bus that isn't live.
+    (
+        "bus = [{ name = \"A\", kv = 10 }, { name = \"K\", kv = 10 }]\nline = [{ name = \"L1\", from = \"A\", to = \"K\", r = 0, x = 1, sections = 64 }, { name = \"L2\", from = \"A\", to = \"K\", r = 0, x = 1, sections = 57 }]",
+        "12 TooMany network 0 -",
+    ),
+    // In the zero network alone the nodes are too many.
+    (
+        "bus = [{ name = \"A\", kv = 10 }, { name = \"K\", kv = 10 }]\nsource = [{ name = \"S1\", bus = \"K\", r = 0, x = 1 }]\nline = [{ name = \"L1\", from = \"A\", to = \"K\", r = 0, x = 1, r0 = 0, x0 = 1, sections = 64 }, { name = \"L2\", from = \"A\", to = \"K\", r = 0, x = 1, r0 = 0, x0 = 1, sections = 56 }]\ntransformer = [{ name = \"T1\", from = \"A\", to = \"K\", mva = 10, r = 0, x = 10, from_conn = \"grounded\", from_rn = 1, to_conn = \"delta\" }]",
+        "12 TooMany network 0 -",
     ),
 ];

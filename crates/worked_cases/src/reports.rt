@@ -1,7 +1,7 @@
 // Reports, words, and faults of files, through the program.
 use crate::answers::{Answer, SCAN, assert_answer, shelf_with, strings};
 use crate::refusing::RefusingSink;
-use crate::studies;
+use crate::{networks, studies};
 use harm_io::{MemorySink, SteadyShelf, SteadySink};
 use harmscan_core::run;
 use std::alloc::Global;
@@ -55,6 +55,39 @@ fn reports(rt: HostRuntime) -> Result<(), Fail> {
         };
         assert_answer(&rt, rt.alloc(), &SCAN, &mut shelf, &answer)?;
     }
+    Ok(())
+}
+
+#[test]
+fn reports_of_lines_transformers_and_filters(rt: HostRuntime) -> Result<(), Fail> {
+    let cases = [
+        (networks::FILTER, networks::FILTER_REPORT, 3),
+        (networks::FAR_BANK, networks::FAR_BANK_REPORT, 4),
+        (networks::EVERY_ELEMENT, networks::EVERY_ELEMENT_REPORT, 3),
+        (networks::FULL, studies::NO_SCAN_REPORT, 0),
+    ];
+    for (study, report, status) in cases {
+        let mut shelf = shelf_with(rt.alloc(), study.as_bytes())?;
+        let answer = Answer {
+            status,
+            out: report,
+            err: "",
+        };
+        assert_answer(&rt, rt.alloc(), &SCAN, &mut shelf, &answer)?;
+    }
+    Ok(())
+}
+
+#[test]
+fn an_industrial_plant(rt: HostRuntime) -> Result<(), Fail> {
+    let words = strings(rt.alloc(), &SCAN)?;
+    let mut shelf = shelf_with(rt.alloc(), networks::INDUSTRIAL.as_bytes())?;
+    let mut out = SteadySink::new(rt.alloc());
+    let mut err = SteadySink::new(rt.alloc());
+    assert_eq!(rt; run(rt.alloc(), &words, &mut shelf, &mut out, &mut err), 4);
+    let taken = out.taken();
+    assert!(rt; taken.starts_with(networks::INDUSTRIAL_FRONT.as_bytes()));
+    assert!(rt; taken.ends_with(networks::INDUSTRIAL_END.as_bytes()));
     Ok(())
 }
 

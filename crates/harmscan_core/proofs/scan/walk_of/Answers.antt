@@ -4,18 +4,14 @@ use Rattle.admittance_box.specs.HeldMatrix.{HasNoGroup}
 use Rattle.band_subdivision.specs.Scan.{IsScanOf}
 use Rattle.band_subdivision.specs.ScanSpec.{IsScanSpec}
 use Rattle.band_subdivision.specs.declared.scan_spec.ScanSpec.{ScanSpec}
-use Rattle.harmscan_core.proofs.StudyFacts.{built_elements, spec_in_range, no_memory, can_scan, walk_boxes}
-use Rattle.harmscan_core.proofs.Uncoupled.{no_group}
+use Rattle.harmscan_core.proofs.StudyFacts.{spec_in_range, no_memory, can_scan, walk_boxes}
 use Rattle.harmscan_core.proofs.scan.walk_of.Goals as goal
-
-pub build_sequence-requires-clause-built : goal.build_sequence-requires-clause-built
-build_sequence-requires-clause-built g c = built_elements c.args.study.now c.requires.study
 
 pub returns-in-Err-clause-fault : goal.returns-in-Err-clause-fault
 returns-in-Err-clause-fault g c = no_memory c.args.study.now c.args.scan.now.network c.in-Err.fault c.requires.networks c.in-Err.ensures.too_many
 
 pub new-requires-clause-no_group : goal.new-requires-clause-no_group
-new-requires-clause-no_group g c = subst HasNoGroup (sym c.in-Ok.ensures.network) (no_group c.args.study.now c.args.scan.now.network)
+new-requires-clause-no_group g c = subst HasNoGroup (sym c.in-Ok.ensures.network) c.in-Ok.ensures.uncoupled
 
 pub new-requires-clause-spec : goal.new-requires-clause-spec
 new-requires-clause-spec g c = subst IsScanSpec (sym c.spec_of.ensures) (spec_in_range c.args.study.now c.args.scan.now c.requires.study.lawful c.requires.scan)

@@ -28,7 +28,7 @@ pub check_scans-requires-clause-within : goal.check_scans-requires-clause-within
 check_scans-requires-clause-within c =
     let zero = c.in_ok-zero.zero in
     let within = buses_within c.args.study.now Zero (exact_network zero) c.in_ok-zero.ensures.network c.in_ok-zero.ensures.whole.exact.buses in
-    scans_within c.args.study.now c.as_slice.result.now zero.nodes c.as_slice.ensures c.requires.lawful.scans within
+    scans_within c.args.study.now c.as_slice.result.now zero.nodes c.as_slice.ensures c.requires.scans within
 
 pub returns-in_err-check_buses-clause-refused : goal.returns-in_err-check_buses-clause-refused
 returns-in_err-check_buses-clause-refused c =

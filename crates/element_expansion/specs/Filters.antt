@@ -1,0 +1,42 @@
+-- Filters as branches.
+use Rattle.std.specs.Prelude.{ℕ, ℤ, pos, List, [], ◌∷◌, map, if◌then◌else◌}
+use Rattle.exact_algebra.specs.Ratio.{Ratio, whole}
+use Rattle.network_theory.specs.Branch.{Law, Series}
+use Rattle.study_model.specs.declared.words.Sequence.{Sequence}
+use Rattle.study_model.specs.declared.words.FilterKind.{FilterKind}
+use Rattle.study_model.specs.declared.words.FilterKind.TheVariants.{Single, HighPass, CType}
+use Rattle.study_model.specs.declared.records.Filter.{Filter}
+use Rattle.study_model.specs.declared.records.Study.{Study}
+use Rattle.element_expansion.specs.PerUnit.{impedance_of_rating, tuned_reactance, tuned_resistance, highpass_resistance, ctype_reactance, ctype_resistance}
+use Rattle.element_expansion.specs.Expansion.{Expansion, to_ground, between, grounded_at, series, open_circuit, is_present}
+
+-- a resistance, a reactance and a capacitor in series, with no skin coefficients
+abbrev pub resonant : Ratio → Ratio → Ratio → Law
+resonant r x xc = Series r (whole (pos 0)) (whole (pos 1)) x xc
+
+-- a capacitor between the bus and an inner node, and branches of these laws from that node to ground
+abbrev pub behind_capacitor : ℕ → ℕ → Ratio → List Law → ℕ → Expansion
+behind_capacitor bus next xc laws owner =
+    record { inner = 1; branches = between bus next (resonant (whole (pos 0)) (whole (pos 0)) xc) owner ∷ map (λ law. to_ground next law owner) laws }
+
+-- single: Series r, x, xc to ground
+abbrev pub single_laws : ℤ → ℤ → ℤ → ℤ → List Law
+single_laws q n w s = resonant (tuned_resistance q n w s) (tuned_reactance q n s) (impedance_of_rating q s) ∷ []
+
+-- highpass: Series r and Series x from the inner node to ground
+abbrev pub highpass_laws : ℤ → ℤ → ℤ → ℤ → List Law
+highpass_laws q n w s = series (highpass_resistance q n w s) (whole (pos 0)) ∷ series (whole (pos 0)) (tuned_reactance q n s) ∷ []
+
+-- ctype: Series r, and Series x with xc equal to x, from the inner node to ground
+abbrev pub ctype_laws : ℤ → ℤ → ℤ → ℤ → List Law
+ctype_laws q n w s = series (ctype_resistance q n w s) (whole (pos 0)) ∷ resonant (whole (pos 0)) (ctype_reactance q n s) (ctype_reactance q n s) ∷ []
+
+-- a filter by its kind, for a base of s MVA
+abbrev pub filter_of : ℤ → Filter → ℕ → ℕ → FilterKind → Expansion
+filter_of s e owner next Single = grounded_at e.bus (single_laws e.q e.order e.quality s) owner
+filter_of s e owner next HighPass = behind_capacitor e.bus next (impedance_of_rating e.q s) (highpass_laws e.q e.order e.quality s) owner
+filter_of s e owner next CType = behind_capacitor e.bus next (impedance_of_rating e.q s) (ctype_laws e.q e.order e.quality s) owner
+
+-- in the zero network the same where grounded, else open
+unfoldable pub filter_expansion : Study → Filter → ℕ → Sequence → ℕ → Expansion
+filter_expansion study e owner sequence next = if is_present sequence e.grounded e.phase then filter_of study.mva e owner next e.kind else open_circuit

@@ -1,0 +1,4 @@
+pub mod Cascade
+pub mod Plain
+pub mod Small
+pub mod Worked

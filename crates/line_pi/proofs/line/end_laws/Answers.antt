@@ -1,0 +1,5 @@
+use Rattle.element_expansion.proofs.Values.{kv_within}
+use Rattle.line_pi.proofs.line.end_laws.Goals as goal
+
+pub susceptance_share-b-requires-clause-kv : goal.susceptance_share-b-requires-clause-kv
+susceptance_share-b-requires-clause-kv c = rw c.kv-kv.ensures (kv_within _ _ c.requires.study.buses c.requires.line.from)

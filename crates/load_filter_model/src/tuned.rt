@@ -1,0 +1,138 @@
+// The values of a filter, in per unit: its rating q is in MVAr, the base s in MVA, n is the order that it is tuned to and w its quality.
+ghost use Rattle.std.specs.Prelude.{◌≡◌, ◌≤◌, ◌<◌, ◌^◌, ◌≤ℤ◌, ◌<ℤ◌, ◌*◌, ◌*ℤ◌, pos, unsigned_abs};
+ghost use Rattle.exact_fraction.specs.Fraction.{ratio_of};
+ghost use Rattle.study_model.specs.Range.{IsIn};
+ghost use Rattle.study_model.specs.declared.range.TheConstants.Range.{TUNED_ORDER, QUALITY};
+ghost use Rattle.element_expansion.specs.PerUnit.{tuned_reactance, tuned_resistance, highpass_resistance, above_fundamental, ctype_reactance, ctype_resistance};
+ghost use Rattle.element_expansion.specs.Small.{IsSmall};
+
+use element_expansion::{product, scaled, small, times};
+use exact_fraction::Fraction;
+use fixed_decimal::Decimal;
+
+/// The number 1, in units of 10^-12.
+const ONE: i128 = 1_000_000_000_000;
+
+/// The square of an order, in units of 10^-12.
+#[tactic(auto, using(crate::proofs::TunedValues::order_square))]
+fn square(order: Decimal) -> i128
+    requires { IsIn TUNED_ORDER order }
+    ensures value { result ≡ order *ℤ order }
+    ensures bound { unsigned_abs result ≤ 10 ^ 16 }
+    ensures above { pos (10 ^ 12) <ℤ result }
+{
+    product(order, order)
+}
+
+/// n² - 1 of an order, in units of 10^-12.
+fn above_fundamental(order: Decimal) -> i128
+    requires { IsIn TUNED_ORDER order }
+    ensures value { result ≡ above_fundamental order }
+    ensures bound { unsigned_abs result ≤ 10 ^ 17 }
+    ensures positive { pos 1 ≤ℤ result }
+{
+    square(order) - ONE
+}
+
+/// An order times a quality, in units of 10^-12.
+#[tactic(auto, using(crate::proofs::TunedValues::order_quality))]
+fn order_quality(order: Decimal, quality: Decimal) -> i128
+    requires order { IsIn TUNED_ORDER order }
+    requires quality { IsIn QUALITY quality }
+    ensures value { result ≡ order *ℤ quality }
+    ensures bound { unsigned_abs result ≤ 10 ^ 17 }
+    ensures positive { pos 1 ≤ℤ result }
+{
+    product(order, quality)
+}
+
+/// The reactance that is tuned with a filter's capacitor: s/(q·n²).
+#[tactic(auto, unfolding(element_expansion::specs::PerUnit::tuned_reactance))]
+pub fn tuned_reactance(rating: Decimal, order: Decimal, mva: Decimal) -> Fraction
+    requires rating { pos 1 ≤ℤ rating }
+    requires order { IsIn TUNED_ORDER order }
+    ensures value { ratio_of result ≡ tuned_reactance rating order mva }
+    ensures small { IsSmall (ratio_of result) }
+{
+    small(times(mva, ONE), scaled(rating, square(order)))
+}
+
+/// The resistance of a single tuned filter: s/(q·n·w).
+#[tactic(auto, unfolding(element_expansion::specs::PerUnit::tuned_resistance))]
+pub fn tuned_resistance(rating: Decimal, order: Decimal, quality: Decimal, mva: Decimal) -> Fraction
+    requires rating { pos 1 ≤ℤ rating }
+    requires order { IsIn TUNED_ORDER order }
+    requires quality { IsIn QUALITY quality }
+    ensures value { ratio_of result ≡ tuned_resistance rating order quality mva }
+    ensures small { IsSmall (ratio_of result) }
+{
+    small(
+        times(mva, ONE),
+        scaled(rating, order_quality(order, quality)),
+    )
+}
+
+/// A rating times an order, in units of 10^-12.
+#[tactic(auto, using(element_expansion::proofs::Values::product_above))]
+fn rating_order(rating: Decimal, order: Decimal) -> i128
+    requires rating { pos 1 ≤ℤ rating }
+    requires order { IsIn TUNED_ORDER order }
+    ensures value { result ≡ rating *ℤ order }
+    ensures bound { unsigned_abs result < 2 ^ 80 }
+    ensures positive { pos 1 ≤ℤ result }
+{
+    product(rating, order)
+}
+
+/// The resistance of a high-pass filter: w·s/(q·n).
+#[tactic(auto, unfolding(element_expansion::specs::PerUnit::highpass_resistance))]
+pub fn highpass_resistance(
+    rating: Decimal,
+    order: Decimal,
+    quality: Decimal,
+    mva: Decimal,
+) -> Fraction
+    requires rating { pos 1 ≤ℤ rating }
+    requires order { IsIn TUNED_ORDER order }
+    ensures value { ratio_of result ≡ highpass_resistance rating order quality mva }
+    ensures small { IsSmall (ratio_of result) }
+{
+    small(product(quality, mva), rating_order(rating, order))
+}
+
+/// The reactance of a C-type filter: s/(q·(n² - 1)).
+#[tactic(auto, unfolding(element_expansion::specs::PerUnit::ctype_reactance))]
+pub fn ctype_reactance(rating: Decimal, order: Decimal, mva: Decimal) -> Fraction
+    requires rating { pos 1 ≤ℤ rating }
+    requires order { IsIn TUNED_ORDER order }
+    ensures value { ratio_of result ≡ ctype_reactance rating order mva }
+    ensures small { IsSmall (ratio_of result) }
+{
+    small(times(mva, ONE), scaled(rating, above_fundamental(order)))
+}
+
+/// A quality times an order times a base in MVA, in units of 10^-18.
+#[tactic(auto, using(crate::proofs::TunedValues::order_quality))]
+fn quality_order_base(quality: Decimal, order: Decimal, mva: Decimal) -> i128
+    requires order { IsIn TUNED_ORDER order }
+    requires quality { IsIn QUALITY quality }
+    ensures value { result ≡ quality *ℤ order *ℤ mva }
+    ensures bound { unsigned_abs result < 2 ^ 105 }
+{
+    order_quality(order, quality) * i128::from(mva.millionths)
+}
+
+/// The resistance of a C-type filter: w·n·s/(q·(n² - 1)).
+#[tactic(auto, unfolding(element_expansion::specs::PerUnit::ctype_resistance))]
+pub fn ctype_resistance(rating: Decimal, order: Decimal, quality: Decimal, mva: Decimal) -> Fraction
+    requires rating { pos 1 ≤ℤ rating }
+    requires order { IsIn TUNED_ORDER order }
+    requires quality { IsIn QUALITY quality }
+    ensures value { ratio_of result ≡ ctype_resistance rating order quality mva }
+    ensures small { IsSmall (ratio_of result) }
+{
+    small(
+        quality_order_base(quality, order, mva),
+        scaled(rating, above_fundamental(order)),
+    )
+}

@@ -1,0 +1,11 @@
+// Transformers as branches of a sequence network.
+#![tactic(auto)]
+
+mod leakage;
+mod neutral;
+#[cfg(test)]
+mod tests;
+mod transformer;
+mod zero;
+
+pub use transformer::add_transformer;

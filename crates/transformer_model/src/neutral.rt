@@ -1,0 +1,103 @@
+// The neutrals of grounded sides.
+ghost use Rattle.std.specs.Prelude.{◌≡◌, ◌<◌, ◌≤◌, ◌≤ℤ◌, ◌*ℤ◌, ◌||◌, ◌++◌, int_lt, pos, length, map, IfOk, OnOk};
+ghost use Rattle.exact_algebra.specs.Ratio.{whole};
+ghost use Rattle.network_theory.specs.Branch.{Series};
+ghost use Rattle.net_branch.specs.Exact.{exact_law, exact_branch};
+ghost use Rattle.element_expansion.specs.PerUnit.{kv_of, as_written, impedance_per_unit};
+ghost use Rattle.element_expansion.specs.Small.{IsSmallLaw, AreSmallLaws, HaveSmallLaws};
+ghost use Rattle.element_expansion.specs.Transformers.{neutral_laws, neutral, behind};
+ghost use Rattle.transformer_model.specs.NeutralLaws.{laws_of};
+
+use element_expansion::{between, kv, skin_series, triple_impedance};
+use fixed_decimal::Decimal;
+use net_branch::{Branch, Law};
+use sqlite_items::Items;
+use std::alloc::{AllocError, Global};
+use study_model::{Study, Transformer};
+
+/// Whether a neutral of `rn` and `xn` ohms has an impedance.
+fn has_impedance(rn: Decimal, xn: Decimal) -> bool
+    ensures { result ≡ (int_lt (pos 0) rn || int_lt (pos 0) xn) }
+{
+    rn.millionths > 0 || xn.millionths > 0
+}
+
+/// Three times the impedance of a neutral of `rn` and `xn` ohms at a bus of `kv`, in per unit.
+fn triple_neutral(
+    study: &Study,
+    transformer: &Transformer,
+    kv: Decimal,
+    rn: Decimal,
+    xn: Decimal,
+) -> Law
+    requires { pos 1 ≤ℤ kv }
+    ensures value { exact_law result ≡ Series (impedance_per_unit (pos 3 *ℤ rn) study.now.mva kv) (as_written transformer.now.skin_k)
+        (as_written transformer.now.skin_m) (impedance_per_unit (pos 3 *ℤ xn) study.now.mva kv) (whole (pos 0)) }
+    ensures small { IsSmallLaw (exact_law result) }
+{
+    let r = triple_impedance(rn, study.mva, kv);
+    let x = triple_impedance(xn, study.mva, kv);
+    skin_series(r, transformer.skin_k, transformer.skin_m, x)
+}
+
+/// Three times the impedance of a side's neutral of `rn` and `xn` ohms, none where both are 0.
+pub fn neutral_law(
+    study: &Study,
+    transformer: &Transformer,
+    bus: u32,
+    rn: Decimal,
+    xn: Decimal,
+) -> Option<Law>
+    requires bus { bus < length study.now.buses }
+    requires kv { pos 1 ≤ℤ kv_of study.now.buses bus }
+    ensures value { laws_of result ≡ neutral_laws study.now transformer.now bus rn xn }
+    ensures small { AreSmallLaws (laws_of result) }
+{
+    if has_impedance(rn, xn) {
+        Some(triple_neutral(study, transformer, kv(study, bus), rn, xn))
+    } else {
+        None
+    }
+}
+
+/// How many inner nodes a neutral adds.
+pub fn inner_nodes(law: Option<Law>) -> u32
+    ensures value { result ≡ length (laws_of law) }
+    ensures few { result ≤ 1 }
+{
+    match law {
+        Some(_) => 1,
+        None => 0,
+    }
+}
+
+/// The node that stands for a grounded side's bus: the next inner node where its neutral has an impedance, else the bus.
+pub fn node_behind(bus: u32, next: u32, law: Option<Law>) -> u32
+    ensures { result ≡ behind bus next (laws_of law) }
+{
+    match law {
+        Some(_) => next,
+        None => bus,
+    }
+}
+
+/// The branch of a neutral with an impedance, from the bus to the next inner node, after the branches.
+#[tactic(auto, using(crate::proofs::Small::small_push))]
+pub fn push_neutral(
+    alloc: Global,
+    branches: &mut Items<Branch>,
+    bus: u32,
+    next: u32,
+    law: Option<Law>,
+    owner: u32,
+) -> Result<(), AllocError>
+    requires { AreSmallLaws (laws_of law) }
+    ensures value { OnOk result (map exact_branch branches.new ≡ map exact_branch branches.old ++ neutral bus next (laws_of law) owner) }
+    ensures small { OnOk result (HaveSmallLaws (map exact_branch branches.old) → HaveSmallLaws (map exact_branch branches.new)) }
+{
+    let Some(law) = law else {
+        return Ok(());
+    };
+    branches.push(between(alloc, bus, next, law, owner)?)?;
+    Ok(())
+}
