@@ -12,7 +12,7 @@ use Rattle.study_model.specs.Lawful.{IsLawful, IsLawfulScan}
 use Rattle.study_model.specs.declared.records.ScanItem.{ScanItem}
 use Rattle.study_model.specs.declared.records.Study.{Study}
 use Rattle.harmscan_core.specs.Scan.{boxes_in}
-use Rattle.harmscan_core.specs.Report.{counted, no_counts, found_too, found_in, nothing_found}
+use Rattle.harmscan_core.specs.Report.{tallied, no_tally, found_too, found_in, nothing_found}
 use Rattle.harmscan_core.specs.Texts.{scan_text, scans_text}
 use Rattle.harmscan_core.specs.Plan.{CanScan, IsPlanned, IsPlan}
 use Rattle.harmscan_core.specs.declared.counts.Counts.{Counts}
@@ -59,7 +59,7 @@ putting_first {E} study plan planned rest found before now lawful e p =
 
 -- it was written
 pub putting_next : {E : Type 0} (study : Study) (plan : List (PlannedScan E)) (planned : PlannedScan E) (rest : List (PlannedScan E)) (found more : Found) (counts : Counts) (before now after : SinkState)
-    → plan ≡ planned ∷ rest → Putting study plan found before now → after ≡ took now (scan_text study planned.scan) → counts ≡ counted no_counts (boxes_in study planned.scan)
+    → plan ≡ planned ∷ rest → Putting study plan found before now → after ≡ took now (scan_text study planned.scan) → counts ≡ (tallied no_tally (boxes_in study planned.scan)).counts
     → more ≡ found_too found counts → Putting study rest more before after
 putting_next {E} study plan planned rest found more counts before now after e p wrote is next =
     let q = subst (λ (l : List (PlannedScan E)). Putting study l found before now) e p in

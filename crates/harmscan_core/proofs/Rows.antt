@@ -1,33 +1,91 @@
 -- Rows that are written one after another.
-use Rattle.std.proofs.Common.{◌≡◌, ℕ, ◌+◌, ◌≤◌, List, [], ◌∷◌, Err, refl, subst, arith}
+use Rattle.std.proofs.Common.{◌≡◌, ◌∙◌, ℕ, ◌+◌, ◌≤◌, ℤ, Bool, true, false, int_lt, List, [], ◌∷◌, ◌++◌, Option, Some, None, Result, Err, ap, sym, refl, subst, append_assoc, append-nil, arith}
+use Rattle.std.specs.Prelude.{if◌then◌else◌}
 use Rattle.harm_io.specs.Sinks.{SinkState, took, Writes}
-use Rattle.harm_io.proofs.Writing.{WroteFront, front_next, front_stop, front_end}
+use Rattle.harm_io.proofs.Writing.{WroteFront, front_next, front_stop, front_end, took_nothing}
 use Rattle.harm_io.specs.declared.sink.PutFault.{PutFault}
-use Rattle.scan_report.specs.Rows.{row_text}
+use Rattle.scan_report.specs.Rows.{row_text, IsOhms}
+use Rattle.scan_report.specs.declared.rows.Row.{Row}
 use Rattle.scan_report.specs.declared.boxes.BoxRow.{BoxRow}
 use Rattle.scan_report.specs.declared.boxes.Kind.{Kind}
 use Rattle.scan_report.specs.declared.boxes.Kind.TheVariants.{Cleared, Peak, Undecided}
-use Rattle.harmscan_core.specs.Report.{row_of, count_more}
-use Rattle.harmscan_core.specs.Texts.{boxes_text}
+use Rattle.band_subdivision.specs.BoxText.{HasText}
+use Rattle.harmscan_core.specs.Regions.{better, reaching, with_kind, joined, ohms_of_summit, row_of_region}
+use Rattle.scan_report.specs.Reading.{text_of}
+use Rattle.harmscan_core.specs.Report.{row_of, count_more, ended_by, tally_more, open_rows, ended_rows, box_rows}
+use Rattle.harmscan_core.specs.Tallies.{IsRun, IsTally}
+use Rattle.harmscan_core.specs.Texts.{open_text, ended_text, step_text, boxes_text}
 use Rattle.harmscan_core.specs.declared.counts.Counts.{Counts}
+use Rattle.harmscan_core.specs.declared.counts.Tally.{Tally}
+use Rattle.harmscan_core.specs.declared.region.Region.{Region}
+use Rattle.harmscan_core.specs.declared.region.Summit.{Summit}
 
-pub boxes_next : (before now after : SinkState) (n : ℕ) (left : List BoxRow) (b : BoxRow) (bs : List BoxRow) (whole : List ℕ)
-    → left ≡ b ∷ bs → WroteFront before now (boxes_text n left) whole → after ≡ took now (row_text (row_of n b.lo b.hi b.kind))
-    → WroteFront before after (boxes_text (n + 1) bs) whole
-unfolding boxes_text
-boxes_next before now after n left b bs whole e h w =
-    front_next before now after (row_text (row_of n b.lo b.hi b.kind)) (boxes_text (n + 1) bs) whole
-    (subst (λ (l : List BoxRow). WroteFront before now (boxes_text n l) whole) e h) w
+pub text_of-both : (xs ys : List Row) → text_of (xs ++ ys) ≡ text_of xs ++ text_of ys
+text_of-both [] ys = refl
+text_of-both (x ∷ xs) ys = ap (λ (t : List ℕ). row_text x ++ t) (text_of-both xs ys) ∙ sym (append_assoc (row_text x) (text_of xs) (text_of ys))
 
-pub boxes_stop : (A B : Type 0) (before now after : SinkState) (n : ℕ) (left : List BoxRow) (b : BoxRow) (bs : List BoxRow) (whole : List ℕ) (fault : PutFault)
-    → left ≡ b ∷ bs → WroteFront before now (boxes_text n left) whole → Writes {A = A} (row_text (row_of n b.lo b.hi b.kind)) now after (Err fault)
+-- ---- the row of a region, where there is one
+pub writes_region : {A : Type 0} (hz : ℤ) (regions : ℕ) (run : Region) (before now : SinkState) (r : Result A PutFault) → Writes (row_text (row_of_region hz (regions + 1) run)) before now r → Writes (open_text hz regions (Some run)) before now r
+unfolding open_text
+writes_region hz regions run before now r h = subst (λ (t : List ℕ). Writes t before now r) (sym (append-nil (row_text (row_of_region hz (regions + 1) run)))) h
+
+pub writes_no_region : (hz : ℤ) (regions : ℕ) (s : SinkState) → s ≡ took s (open_text hz regions None)
+unfolding open_text
+writes_no_region hz regions s = sym (took_nothing s)
+
+pub writes_ended : {A : Type 0} (hz : ℤ) (regions : ℕ) (run : Option Region) (before now : SinkState) (r : Result A PutFault) → Writes (open_text hz regions run) before now r → Writes (ended_text hz regions run Cleared) before now r
+unfolding ended_text open_text
+writes_ended hz regions run before now r h = h
+
+pub writes_not_ended : (hz : ℤ) (regions : ℕ) (run : Option Region) (kind : Kind) (s : SinkState) → (kind ≡ Cleared → ⊥) → s ≡ took s (ended_text hz regions run kind)
+unfolding ended_text
+writes_not_ended hz regions run Cleared s n = absurd (n refl)
+writes_not_ended hz regions run (Peak at ohms) s n = sym (took_nothing s)
+writes_not_ended hz regions run Undecided s n = sym (took_nothing s)
+
+-- ---- one box after another
+step_first : (hz : ℤ) (t : Tally) (b : BoxRow) (bs : List BoxRow) → boxes_text hz t (b ∷ bs) ≡ step_text hz t b ++ boxes_text hz (tally_more b t) bs
+unfolding boxes_text step_text ended_text
+step_first hz t b bs =
+    let ended = ended_rows hz t.regions t.run b.kind in
+    let own = row_of (t.counts.boxes + 1) b.lo b.hi b.kind in
+    text_of-both ended (own ∷ box_rows hz (tally_more b t) bs) ∙ sym (append_assoc (text_of ended) (row_text own) (text_of (box_rows hz (tally_more b t) bs)))
+
+front_of_step : (before now : SinkState) (hz : ℤ) (t : Tally) (left : List BoxRow) (b : BoxRow) (bs : List BoxRow) (whole : List ℕ) → left ≡ b ∷ bs → WroteFront before now (boxes_text hz t left) whole
+    → WroteFront before now (step_text hz t b ++ boxes_text hz (tally_more b t) bs) whole
+front_of_step before now hz t left b bs whole e h =
+    subst (λ (r : List ℕ). WroteFront before now r whole) (ap (boxes_text hz t) e ∙ step_first hz t b bs) h
+
+pub boxes_next : (before now after : SinkState) (hz : ℤ) (t : Tally) (left : List BoxRow) (b : BoxRow) (bs : List BoxRow) (whole : List ℕ)
+    → left ≡ b ∷ bs → WroteFront before now (boxes_text hz t left) whole → after ≡ took now (step_text hz t b)
+    → WroteFront before after (boxes_text hz (tally_more b t) bs) whole
+boxes_next before now after hz t left b bs whole e h w =
+    front_next before now after (step_text hz t b) (boxes_text hz (tally_more b t) bs) whole (front_of_step before now hz t left b bs whole e h) w
+
+pub boxes_stop : (A B : Type 0) (before now after : SinkState) (hz : ℤ) (t : Tally) (left : List BoxRow) (b : BoxRow) (bs : List BoxRow) (whole : List ℕ) (fault : PutFault)
+    → left ≡ b ∷ bs → WroteFront before now (boxes_text hz t left) whole → Writes {A = A} (step_text hz t b) now after (Err fault)
     → Writes {A = B} whole before after (Err fault)
-unfolding boxes_text
-boxes_stop A B before now after n left b bs whole fault e h w =
-    front_stop A B before now after (row_text (row_of n b.lo b.hi b.kind)) (boxes_text (n + 1) bs) whole fault
-    (subst (λ (l : List BoxRow). WroteFront before now (boxes_text n l) whole) e h) w
+boxes_stop A B before now after hz t left b bs whole fault e h w =
+    front_stop A B before now after (step_text hz t b) (boxes_text hz (tally_more b t) bs) whole fault (front_of_step before now hz t left b bs whole e h) w
 
--- what a count keeps
+-- no more boxes are left: the open run comes last
+front_of_end : (before now : SinkState) (hz : ℤ) (t : Tally) (left : List BoxRow) (whole : List ℕ) → left ≡ [] → WroteFront before now (boxes_text hz t left) whole
+    → WroteFront before now (open_text hz t.regions t.run ++ []) whole
+unfolding boxes_text open_text
+front_of_end before now hz t left whole e h =
+    subst (λ (r : List ℕ). WroteFront before now r whole) (ap (λ (l : List BoxRow). text_of (box_rows hz t l)) e ∙ sym (append-nil (text_of (open_rows hz t.regions t.run)))) h
+
+pub boxes_end : (before now after : SinkState) (hz : ℤ) (t : Tally) (left : List BoxRow) (whole : List ℕ) → left ≡ [] → WroteFront before now (boxes_text hz t left) whole
+    → after ≡ took now (open_text hz t.regions t.run) → after ≡ took before whole
+boxes_end before now after hz t left whole e h w =
+    front_end before after whole (front_next before now after (open_text hz t.regions t.run) [] whole (front_of_end before now hz t left whole e h) w)
+
+pub end_stop : (A B : Type 0) (before now after : SinkState) (hz : ℤ) (t : Tally) (left : List BoxRow) (whole : List ℕ) (fault : PutFault) → left ≡ [] → WroteFront before now (boxes_text hz t left) whole
+    → Writes {A = A} (open_text hz t.regions t.run) now after (Err fault) → Writes {A = B} whole before after (Err fault)
+end_stop A B before now after hz t left whole fault e h w =
+    front_stop A B before now after (open_text hz t.regions t.run) [] whole fault (front_of_end before now hz t left whole e h) w
+
+-- ---- what a tally keeps
 pub record Counts≤ (c d : Counts) : Type 0 where
   pub boxes : d.boxes ≡ c.boxes + 1
   pub cleared : d.cleared ≤ c.cleared + 1
@@ -39,7 +97,28 @@ count_grows Cleared c = record { boxes = refl; cleared = omega arith; peaks = om
 count_grows (Peak at ohms) c = record { boxes = refl; cleared = omega arith; peaks = omega arith; undecided = omega arith }
 count_grows Undecided c = record { boxes = refl; cleared = omega arith; peaks = omega arith; undecided = omega arith }
 
--- no more boxes are left
-pub boxes_end : (before now : SinkState) (n : ℕ) (left : List BoxRow) (whole : List ℕ) → left ≡ [] → WroteFront before now (boxes_text n left) whole → now ≡ took before whole
-unfolding boxes_text
-boxes_end before now n left whole e h = front_end before now whole (subst (λ (l : List BoxRow). WroteFront before now (boxes_text n l) whole) e h)
+better_ohms : (first : Option Summit) (second : Summit) → IsOhms (ohms_of_summit first) → IsOhms (Some second.micro_ohms) → IsOhms (Some (better first second).micro_ohms)
+better_ohms None second h k = k
+better_ohms (Some first) second h k = pick (int_lt first.micro_ohms second.micro_ohms)
+  where
+    pick : (b : Bool) → IsOhms (Some (if b then second else first).micro_ohms)
+    pick true = k
+    pick false = h
+
+run_grows : (n regions : ℕ) (run : Option Region) (lo hi : ℕ) (kind : Kind) → HasText (record { lo = lo; hi = hi; kind = kind }) → IsRun n regions run → IsRun (n + 1) (ended_by regions run kind) (with_kind (reaching run lo hi) kind)
+run_grows n regions None lo hi Cleared t h = omega (arith, h)
+run_grows n regions None lo hi (Peak at ohms) t h = (omega (arith, h), omega arith, omega arith, t)
+run_grows n regions None lo hi Undecided t h = (omega (arith, h), omega arith, omega arith, tt)
+run_grows n regions (Some run) lo hi Cleared t h = omega (arith, h.0)
+run_grows n regions (Some run) lo hi (Peak at ohms) t h = (omega (arith, h.0), omega (arith, h.1), omega (arith, h.2), better_ohms run.summit (record { at = at; micro_ohms = ohms }) h.3 t)
+run_grows n regions (Some run) lo hi Undecided t h = (omega (arith, h.0), omega (arith, h.1), omega (arith, h.2), h.3)
+
+pub tally_grows : (b : BoxRow) (t : Tally) → HasText b → IsTally t → IsTally (tally_more b t)
+tally_grows b t h k =
+    let counts : Counts≤ t.counts (count_more b.kind t.counts) = count_grows b.kind t.counts in
+    record {
+      cleared = omega (arith, counts.boxes, counts.cleared, k.cleared);
+      peaks = omega (arith, counts.boxes, counts.peaks, k.peaks);
+      undecided = omega (arith, counts.boxes, counts.undecided, k.undecided);
+      run = subst (λ n. IsRun n (ended_by t.regions t.run b.kind) (joined t.run b)) (sym counts.boxes) (run_grows t.counts.boxes t.regions t.run b.lo b.hi b.kind h k.run);
+    }

@@ -6,12 +6,10 @@ use Rattle.scan_report.specs.declared.rows.Row.TheVariants.{End}
 use Rattle.study_model.specs.declared.records.ScanItem.{ScanItem}
 use Rattle.study_model.specs.declared.records.Study.{Study}
 use Rattle.harmscan_core.specs.Scan.{boxes_in}
-use Rattle.harmscan_core.specs.Report.{text_of, box_rows, counted, no_counts, head_row, summary_of, scan_rows, report_status, rows_of_scans, report_text}
+use Rattle.scan_report.specs.Reading.{text_of}
+use Rattle.harmscan_core.specs.Report.{box_rows, tallied, no_tally, head_row, summary_of, scan_rows, report_status, rows_of_scans, report_text}
+use Rattle.harmscan_core.proofs.Rows.{text_of-both}
 use Rattle.harmscan_core.specs.Texts.{head_text, boxes_text, summary_text, end_text, body_text, scan_text, scans_text, whole_text}
-
-text_of-both : (xs ys : List Row) → text_of (xs ++ ys) ≡ text_of xs ++ text_of ys
-text_of-both [] ys = refl
-text_of-both (x ∷ xs) ys = ap (λ (t : List ℕ). row_text x ++ t) (text_of-both xs ys) ∙ sym (append_assoc (row_text x) (text_of xs) (text_of ys))
 
 one_row : (x : Row) → text_of (x ∷ []) ≡ row_text x
 one_row x = append-nil (row_text x)
@@ -20,8 +18,8 @@ scan_rows_text : (study : Study) (scan : ScanItem) → text_of (scan_rows study 
 unfolding scan_rows scan_text head_text body_text boxes_text summary_text
 scan_rows_text study scan =
     ap (λ (t : List ℕ). row_text (head_row study scan) ++ t)
-    (text_of-both (box_rows 1 (boxes_in study scan)) (summary_of scan (counted no_counts (boxes_in study scan)) ∷ [])
-    ∙ ap (λ (t : List ℕ). text_of (box_rows 1 (boxes_in study scan)) ++ t) (one_row (summary_of scan (counted no_counts (boxes_in study scan)))))
+    (text_of-both (box_rows study.hz no_tally (boxes_in study scan)) (summary_of scan (tallied no_tally (boxes_in study scan)) ∷ [])
+    ∙ ap (λ (t : List ℕ). text_of (box_rows study.hz no_tally (boxes_in study scan)) ++ t) (one_row (summary_of scan (tallied no_tally (boxes_in study scan)))))
 
 scans_rows_text : (study : Study) (scans : List ScanItem) → text_of (rows_of_scans study scans) ≡ scans_text study scans
 scans_rows_text study [] = refl

@@ -1,37 +1,52 @@
 -- The texts of the parts of a report, which stay closed where they are put together.
-use Rattle.std.specs.Prelude.{ℕ, List, [], ◌∷◌, ◌++◌}
+use Rattle.std.specs.Prelude.{ℕ, ◌+◌, ℤ, List, [], ◌∷◌, ◌++◌, Option}
 use Rattle.scan_report.specs.Rows.{row_text}
 use Rattle.scan_report.specs.declared.rows.Row.TheVariants.{End}
 use Rattle.scan_report.specs.declared.boxes.BoxRow.{BoxRow}
 use Rattle.study_model.specs.declared.records.ScanItem.{ScanItem}
 use Rattle.study_model.specs.declared.records.Study.{Study}
-use Rattle.harmscan_core.specs.declared.counts.Counts.{Counts}
-use Rattle.harmscan_core.specs.Report.{text_of, box_rows, head_row, summary_of, counted, no_counts}
+use Rattle.scan_report.specs.declared.boxes.Kind.{Kind}
+use Rattle.harmscan_core.specs.declared.counts.Tally.{Tally}
+use Rattle.harmscan_core.specs.declared.region.Region.{Region}
+use Rattle.scan_report.specs.Reading.{text_of}
+use Rattle.harmscan_core.specs.Report.{row_of, open_rows, ended_rows, box_rows, head_row, summary_of, tallied, no_tally}
 use Rattle.harmscan_core.specs.Scan.{boxes_in}
 
 -- a scan's first row
 unfoldable pub head_text : Study → ScanItem → List ℕ
 head_text study scan = row_text (head_row study scan)
 
--- the rows of boxes, numbered from here
-unfoldable pub boxes_text : ℕ → List BoxRow → List ℕ
-boxes_text number boxes = text_of (box_rows number boxes)
+-- the row of the run that is open, where there is one
+unfoldable pub open_text : ℤ → ℕ → Option Region → List ℕ
+open_text hz regions run = text_of (open_rows hz regions run)
+
+-- the row of the region that a box ends
+unfoldable pub ended_text : ℤ → ℕ → Option Region → Kind → List ℕ
+ended_text hz regions run kind = text_of (ended_rows hz regions run kind)
+
+-- what one box adds: the row of the region that it ends, and its own
+unfoldable pub step_text : ℤ → Tally → BoxRow → List ℕ
+step_text hz t b = ended_text hz t.regions t.run b.kind ++ row_text (row_of (t.counts.boxes + 1) b.lo b.hi b.kind)
+
+-- the rows of boxes and of their regions
+unfoldable pub boxes_text : ℤ → Tally → List BoxRow → List ℕ
+boxes_text hz t boxes = text_of (box_rows hz t boxes)
 
 -- a scan's last row
-unfoldable pub summary_text : ScanItem → Counts → List ℕ
-summary_text scan counts = row_text (summary_of scan counts)
+unfoldable pub summary_text : ScanItem → Tally → List ℕ
+summary_text scan tally = row_text (summary_of scan tally)
 
 -- the last row of a report
 unfoldable pub end_text : ℕ → List ℕ
 end_text status = row_text (End status)
 
--- the rows of boxes and a scan's last row
-unfoldable pub body_text : ScanItem → List BoxRow → List ℕ
-body_text scan boxes = boxes_text 1 boxes ++ summary_text scan (counted no_counts boxes)
+-- the rows of boxes and regions and a scan's last row
+unfoldable pub body_text : ℤ → ScanItem → List BoxRow → List ℕ
+body_text hz scan boxes = boxes_text hz no_tally boxes ++ summary_text scan (tallied no_tally boxes)
 
 -- all rows of a scan
 unfoldable pub scan_text : Study → ScanItem → List ℕ
-scan_text study scan = head_text study scan ++ body_text scan (boxes_in study scan)
+scan_text study scan = head_text study scan ++ body_text study.hz scan (boxes_in study scan)
 
 -- all rows of scans in order
 abbrev pub scans_text : Study → List ScanItem → List ℕ

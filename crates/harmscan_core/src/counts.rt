@@ -1,8 +1,10 @@
-// How many boxes there are, and of which kinds.
+// How many boxes there are, and of which kinds, and the regions that they make.
 ghost use Rattle.std.specs.Prelude.{◌≡◌, ◌<◌, ◌≤◌};
-ghost use Rattle.harmscan_core.specs.Report.{count_more, no_counts, found_too, nothing_found, status_of};
+ghost use Rattle.harmscan_core.specs.Report.{count_more, ended_by, tally_more, all_regions, found_too, status_of};
+ghost use Rattle.harmscan_core.specs.Tallies.{IsTally};
 
-use scan_report::Kind;
+use crate::region::{Region, joined};
+use scan_report::{BoxRow, Kind};
 
 /// How many boxes there are, and of which kinds.
 #[derive(Clone, Copy)]
@@ -36,6 +38,58 @@ pub fn count(counts: Counts, kind: Kind) -> Counts
         Kind::Undecided => counts.undecided += 1,
     }
     counts
+}
+
+/// What is known after some boxes of a scan: how many there are, how many regions have ended, and the run of boxes that is open.
+#[derive(Clone, Copy)]
+pub struct Tally {
+    pub counts: Counts,
+    pub regions: u32,
+    pub run: Option<Region>,
+}
+
+impl Tally {
+    /// No boxes.
+    pub const NONE: Tally = Tally {
+        counts: Counts::NONE,
+        regions: 0,
+        run: None,
+    };
+}
+
+/// How many regions have ended after a box of this kind.
+fn ended_by(regions: u32, run: Option<Region>, kind: Kind) -> u32
+    requires { regions < 4294967295 }
+    ensures { result ≡ ended_by regions run kind }
+{
+    match (run, kind) {
+        (Some(_), Kind::Cleared) => regions + 1,
+        _ => regions,
+    }
+}
+
+/// One box of a scan more.
+pub fn tally_more(tally: Tally, found: &BoxRow) -> Tally
+    requires tally { IsTally tally }
+    requires room { tally.counts.boxes < 4294967295 }
+    ensures { result ≡ tally_more found.now tally }
+{
+    Tally {
+        counts: count(tally.counts, found.kind),
+        regions: ended_by(tally.regions, tally.run, found.kind),
+        run: joined(tally.run, found),
+    }
+}
+
+/// How many regions there are, the open one too.
+pub fn all_regions(regions: u32, run: Option<Region>) -> u32
+    requires { regions < 4294967295 }
+    ensures { result ≡ all_regions regions run }
+{
+    match run {
+        Some(_) => regions + 1,
+        None => regions,
+    }
 }
 
 /// Whether some box of a report is a peak, and whether some box is undecided.

@@ -1,5 +1,5 @@
 // The writing of a report, a line a put.
-ghost use Rattle.std.specs.Prelude.{◌≡◌, ◌<◌, length, IfOk};
+ghost use Rattle.std.specs.Prelude.{◌≡◌, ◌<◌, length, IfOk, IfSome};
 ghost use Rattle.std.specs.List.{AllByRecursion};
 ghost use Rattle.band_subdivision.specs.BoxText.{HasText};
 ghost use Rattle.harm_io.specs.Sinks.{Writes};
@@ -7,18 +7,26 @@ ghost use Rattle.scan_report.specs.Rows.{row_text};
 ghost use Rattle.study_model.specs.Lawful.{IsLawfulScan};
 ghost use Rattle.study_reader.specs.Built.{IsBuilt};
 ghost use Rattle.harmscan_core.specs.Scan.{boxes_in};
-ghost use Rattle.harmscan_core.specs.Texts.{head_text, boxes_text, summary_text, end_text, body_text, scan_text, scans_text, whole_text};
+ghost use Rattle.harmscan_core.specs.Texts.{head_text, open_text, ended_text, step_text, boxes_text, summary_text, end_text, body_text, scan_text, scans_text, whole_text};
 ghost use Rattle.harmscan_core.specs.Plan.{IsPlan};
-ghost use Rattle.harmscan_core.specs.Report.{row_of, counted, no_counts, net_of, found_in, nothing_found, report_status};
+ghost use Rattle.harmscan_core.specs.Report.{row_of, tallied, no_tally, net_of, found_in, nothing_found, report_status};
+ghost use Rattle.harmscan_core.specs.Regions.{order_of_summit, ohms_of_summit, row_of_region};
+ghost use Rattle.harmscan_core.specs.Tallies.{IsTally};
+ghost use Rattle.scan_report.specs.Rows.{IsOhms};
+ghost use Rattle.study_model.specs.Range.{IsIn};
+ghost use Rattle.study_model.specs.declared.range.TheConstants.Range.{HERTZ};
 
-use crate::counts::{Counts, Found, count};
+use crate::counts::{Counts, Found, Tally, all_regions, tally_more};
 use crate::plan::PlannedScan;
+use crate::region::{Region, Summit, hertz_down, hertz_up};
 use crate::scan::micro;
 use band_subdivision::Scan;
 use complex_interval::Enclosure;
+use fixed_decimal::Decimal;
 use harm_io::{PutFault, Sink};
 use scan_report::{
-    BoxRow, BoxWord, Kind, LineBuf, NetWord, Row, box_row, end_row, scan_row, summary_row,
+    BoxRow, BoxWord, Kind, LineBuf, NetWord, Row, box_row, end_row, region_row, scan_row,
+    summary_row,
 };
 use std::collections::VecDeque;
 use study_model::{ScanItem, Sequence, Study};
@@ -63,49 +71,169 @@ fn put_box<O: Sink>(
     put_line(out, line)
 }
 
-/// Puts the rows of all boxes of a walk, and counts them.
+fn order_of(summit: Option<Summit>) -> Option<u32>
+    ensures { result ≡ order_of_summit summit }
+{
+    match summit {
+        Some(summit) => Some(summit.at),
+        None => None,
+    }
+}
+
+fn ohms_of(summit: Option<Summit>) -> Option<i128>
+    ensures { result ≡ ohms_of_summit summit }
+{
+    match summit {
+        Some(summit) => Some(summit.micro_ohms),
+        None => None,
+    }
+}
+
+/// The row of a region, by its number.
+fn region_for(hz: Decimal, number: u32, run: &Region) -> Row
+    requires { IsIn HERTZ hz }
+    ensures { result ≡ row_of_region hz number run.now }
+{
+    Row::Region {
+        number,
+        lo: run.lo,
+        hi: run.hi,
+        hertz_lo: hertz_down(run.lo, hz),
+        hertz_hi: hertz_up(run.hi, hz),
+        peaks: run.peaks,
+        undecided: run.undecided,
+        at: order_of(run.summit),
+        micro_ohms: ohms_of(run.summit),
+    }
+}
+
+/// Puts the row of a region.
+fn put_region<O: Sink>(
+    hz: Decimal,
+    number: u32,
+    run: &Region,
+    line: &mut LineBuf,
+    out: &mut O,
+) -> Result<(), PutFault>
+    requires hz { IsIn HERTZ hz }
+    requires ohms { IsOhms (ohms_of_summit run.now.summit) }
+    ensures { Writes (row_text (row_of_region hz number run.now)) (O.state out.old) (O.state out.new) result }
+{
+    region_row(&region_for(hz, number, run), line);
+    put_line(out, line)
+}
+
+/// Puts the row of the run that is open, where there is one, after so many regions.
+#[tactic(auto, using(crate::proofs::Rows::writes_region, crate::proofs::Rows::writes_no_region))]
+fn put_open<O: Sink>(
+    hz: Decimal,
+    regions: u32,
+    run: Option<Region>,
+    line: &mut LineBuf,
+    out: &mut O,
+) -> Result<(), PutFault>
+    requires hz { IsIn HERTZ hz }
+    requires regions { regions < 4294967295 }
+    requires ohms { IfSome run (λ run. IsOhms (ohms_of_summit run.summit)) }
+    ensures { Writes (open_text hz regions run) (O.state out.old) (O.state out.new) result }
+{
+    match run {
+        Some(run) => put_region(hz, regions + 1, &run, line, out),
+        None => Ok(()),
+    }
+}
+
+/// Puts the row of the region that a box of this kind ends, where it ends one.
+#[tactic(auto, using(crate::proofs::Rows::writes_ended, crate::proofs::Rows::writes_not_ended))]
+fn put_ended<O: Sink>(
+    hz: Decimal,
+    tally: Tally,
+    kind: Kind,
+    line: &mut LineBuf,
+    out: &mut O,
+) -> Result<(), PutFault>
+    requires hz { IsIn HERTZ hz }
+    requires tally { IsTally tally }
+    requires room { tally.counts.boxes < 4294967295 }
+    ensures { Writes (ended_text hz tally.regions tally.run kind) (O.state out.old) (O.state out.new) result }
+{
+    match kind {
+        Kind::Cleared => put_open(hz, tally.regions, tally.run, line, out),
+        _ => Ok(()),
+    }
+}
+
+/// Puts what one box adds: the row of the region that it ends, and its own.
+#[tactic(auto, unfolding(crate::specs::Texts::step_text), using(harm_io::proofs::Writing::second_piece))]
+fn put_step<O: Sink>(
+    hz: Decimal,
+    tally: Tally,
+    found: &BoxRow,
+    line: &mut LineBuf,
+    out: &mut O,
+) -> Result<(), PutFault>
+    requires hz { IsIn HERTZ hz }
+    requires tally { IsTally tally }
+    requires room { tally.counts.boxes < 4294967295 }
+    requires text { HasText found.now }
+    ensures { Writes (step_text hz tally found.now) (O.state out.old) (O.state out.new) result }
+{
+    match put_ended(hz, tally, found.kind, line, out) {
+        Ok(()) => put_box(tally.counts.boxes + 1, found, line, out),
+        Err(fault) => Err(fault),
+    }
+}
+
+/// Puts the rows of all boxes of a walk and of their regions, and counts them.
 fn put_boxes<E: Enclosure, O: Sink>(
+    hz: Decimal,
     walk: &mut Scan<E>,
     line: &mut LineBuf,
     out: &mut O,
-) -> Result<Counts, PutFault>
+) -> Result<Tally, PutFault>
+    requires hz { IsIn HERTZ hz }
     requires text { AllByRecursion HasText walk.old.left }
     requires few { length walk.old.left < 4294967295 }
-    ensures wrote { Writes (boxes_text 1 walk.old.left) (O.state out.old) (O.state out.new) result }
-    ensures counts { IfOk result (λ c. c ≡ counted no_counts walk.old.left) }
+    ensures wrote { Writes (boxes_text hz no_tally walk.old.left) (O.state out.old) (O.state out.new) result }
+    ensures tally { IfOk result (λ t. t ≡ tallied no_tally walk.old.left) }
+    ensures room { IfOk result (λ t. t.regions < 4294967295) }
 {
-    let mut counts = Counts::NONE;
+    let mut tally = Tally::NONE;
     'boxes: while let Some(found) = walk.next_box() {
-        match put_box(counts.boxes + 1, &found, line, out) {
-            Ok(()) => counts = count(counts, found.kind),
+        match put_step(hz, tally, &found, line, out) {
+            Ok(()) => tally = tally_more(tally, &found),
             Err(fault) => return Err(fault),
         }
     }
-    Ok(counts)
+    match put_open(hz, tally.regions, tally.run, line, out) {
+        Ok(()) => Ok(tally),
+        Err(fault) => Err(fault),
+    }
 }
 
 /// Puts a scan's summary, and answers its counts.
 #[tactic(auto, unfolding(crate::specs::Texts::summary_text))]
 fn put_summary<O: Sink>(
     scan: &ScanItem,
-    counts: Counts,
+    tally: Tally,
     line: &mut LineBuf,
     out: &mut O,
 ) -> Result<Counts, PutFault>
-    ensures wrote { Writes (summary_text scan.now counts) (O.state out.old) (O.state out.new) result }
-    ensures counts { IfOk result (λ c. c ≡ counts) }
+    requires { tally.regions < 4294967295 }
+    ensures wrote { Writes (summary_text scan.now tally) (O.state out.old) (O.state out.new) result }
+    ensures counts { IfOk result (λ c. c ≡ tally.counts) }
 {
     let row = Row::Summary {
         name: scan.name,
-        boxes: counts.boxes,
-        cleared: counts.cleared,
-        peaks: counts.peaks,
-        undecided: counts.undecided,
-        regions: 0,
+        boxes: tally.counts.boxes,
+        cleared: tally.counts.cleared,
+        peaks: tally.counts.peaks,
+        undecided: tally.counts.undecided,
+        regions: all_regions(tally.regions, tally.run),
     };
     summary_row(&row, line);
     match put_line(out, line) {
-        Ok(()) => Ok(counts),
+        Ok(()) => Ok(tally.counts),
         Err(fault) => Err(fault),
     }
 }
@@ -161,21 +289,23 @@ fn put_head<O: Sink>(
     put_line(out, line)
 }
 
-/// Puts the rows of the boxes and a scan's last row.
+/// Puts the rows of the boxes and regions and a scan's last row.
 #[tactic(auto, unfolding(crate::specs::Texts::body_text), using(harm_io::proofs::Writing::second_piece))]
 fn put_body<E: Enclosure, O: Sink>(
+    hz: Decimal,
     walk: &mut Scan<E>,
     scan: &ScanItem,
     line: &mut LineBuf,
     out: &mut O,
 ) -> Result<Counts, PutFault>
+    requires hz { IsIn HERTZ hz }
     requires text { AllByRecursion HasText walk.old.left }
     requires few { length walk.old.left < 4294967295 }
-    ensures wrote { Writes (body_text scan.now walk.old.left) (O.state out.old) (O.state out.new) result }
-    ensures counts { IfOk result (λ c. c ≡ counted no_counts walk.old.left) }
+    ensures wrote { Writes (body_text hz scan.now walk.old.left) (O.state out.old) (O.state out.new) result }
+    ensures counts { IfOk result (λ c. c ≡ (tallied no_tally walk.old.left).counts) }
 {
-    match put_boxes(walk, line, out) {
-        Ok(counts) => put_summary(scan, counts, line, out),
+    match put_boxes(hz, walk, line, out) {
+        Ok(tally) => put_summary(scan, tally, line, out),
         Err(fault) => Err(fault),
     }
 }
@@ -189,15 +319,16 @@ fn put_scan<E: Enclosure, O: Sink>(
     line: &mut LineBuf,
     out: &mut O,
 ) -> Result<Counts, PutFault>
+    requires hz { IsIn HERTZ study.now.hz }
     requires scan { IsLawfulScan study.now.model study.now.buses scan.now }
     requires boxes { walk.old.left ≡ boxes_in study.now scan.now }
     requires text { AllByRecursion HasText walk.old.left }
     requires few { length walk.old.left < 4294967295 }
     ensures wrote { Writes (scan_text study.now scan.now) (O.state out.old) (O.state out.new) result }
-    ensures counts { IfOk result (λ c. c ≡ counted no_counts (boxes_in study.now scan.now)) }
+    ensures counts { IfOk result (λ c. c ≡ (tallied no_tally (boxes_in study.now scan.now)).counts) }
 {
     match put_head(study, scan, line, out) {
-        Ok(()) => put_body(walk, scan, line, out),
+        Ok(()) => put_body(study.hz, walk, scan, line, out),
         Err(fault) => Err(fault),
     }
 }

@@ -1,2 +1,5 @@
 pub mod Text
 pub mod Rows
+pub mod Reading
+pub mod Loose
+pub mod Stands

@@ -9,7 +9,7 @@ use Rattle.scan_report.specs.declared.rows.NetWord.TheVariants.{Positive, Zero, 
 use Rattle.scan_report.specs.declared.rows.BoxWord.{BoxWord}
 use Rattle.scan_report.specs.declared.rows.BoxWord.TheVariants.{Cleared, Peak, Undecided}
 use Rattle.scan_report.specs.declared.rows.Row.{Row}
-use Rattle.scan_report.specs.declared.rows.Row.TheVariants.{Scan, BoxLine, Summary, End}
+use Rattle.scan_report.specs.declared.rows.Row.TheVariants.{Scan, BoxLine, Region, Summary, End}
 
 -- a sequence network, or a phase
 abbrev pub net_word : NetWord → List ℕ
@@ -44,6 +44,9 @@ row_text (Scan name bus network from to threshold method) = codes "scan," ++ nam
     ++ codes "," ++ places from ++ codes "," ++ places to ++ codes "," ++ places (unsigned_abs threshold) ++ codes "," ++ method_word method ++ 10 ∷ []
 row_text (BoxLine number lo hi word at micro_ohms) = codes "box," ++ decimal number ++ codes "," ++ places lo ++ codes "," ++ places hi
     ++ codes "," ++ box_word word ++ codes "," ++ order_or_dash at ++ codes "," ++ ohms_or_dash micro_ohms ++ 10 ∷ []
+row_text (Region number lo hi hertz_lo hertz_hi peaks undecided at micro_ohms) = codes "region," ++ decimal number ++ codes "," ++ places lo ++ codes "," ++ places hi
+    ++ codes "," ++ places hertz_lo ++ codes "," ++ places hertz_hi ++ codes "," ++ decimal peaks ++ codes "," ++ decimal undecided
+    ++ codes "," ++ order_or_dash at ++ codes "," ++ ohms_or_dash micro_ohms ++ 10 ∷ []
 row_text (Summary name boxes cleared peaks undecided regions) = codes "summary," ++ name ++ codes "," ++ decimal boxes ++ codes "," ++ decimal cleared
     ++ codes "," ++ decimal peaks ++ codes "," ++ decimal undecided ++ codes "," ++ decimal regions ++ 10 ∷ []
 row_text (End status) = codes "end," ++ decimal status ++ 10 ∷ []
@@ -63,6 +66,11 @@ IsScanRow _ = ⊥
 abbrev pub IsBoxRow : Row → Type 0
 IsBoxRow (BoxLine number lo hi word at micro_ohms) = IsOhms micro_ohms
 IsBoxRow _ = ⊥
+
+-- a region of a scan
+abbrev pub IsRegionRow : Row → Type 0
+IsRegionRow (Region number lo hi hertz_lo hertz_hi peaks undecided at micro_ohms) = IsOhms micro_ohms
+IsRegionRow _ = ⊥
 
 -- the last row of a scan
 abbrev pub IsSummaryRow : Row → Type 0

@@ -2,10 +2,14 @@
 #![tactic(auto)]
 
 mod boxes;
+mod field_text;
 mod fields;
 mod line;
+mod loose;
+mod reading;
 mod rows;
 
 pub use boxes::{BoxRow, Kind};
 pub use line::{LineBuf, push_number};
-pub use rows::{BoxWord, NetWord, Row, box_row, end_row, scan_row, summary_row};
+pub use reading::{Report, ReportFault};
+pub use rows::{BoxWord, NetWord, Row, box_row, end_row, region_row, scan_row, summary_row};

@@ -1,5 +1,5 @@
 // A line that is written piece by piece.
-ghost use Rattle.std.specs.Prelude.{◌≡◌, ◌+◌, ◌^◌, ◌*◌, ◌<◌, ◌≤◌, [], ◌∷◌, ◌++◌, length, take};
+ghost use Rattle.std.specs.Prelude.{◌≡◌, ◌+◌, ◌^◌, ◌*◌, ◌/◌, ◌<◌, ◌≤◌, [], ◌∷◌, ◌++◌, length, take};
 ghost use Rattle.std.specs.Fmt.{decimal};
 ghost use Rattle.scan_report.specs.Text.{places};
 
@@ -102,6 +102,7 @@ pub(crate) fn push_places(line: &mut LineBuf, millionths: u128)
     requires room { length line.old + 38 ≤ 256 }
     ensures text { line.new ≡ line.old ++ places millionths }
     ensures len { length line.new ≤ length line.old + 38 }
+    ensures exact { length line.new ≡ length line.old + length (decimal (millionths / 1000000)) + 7 }
 {
     push_digits(line, millionths / 1_000_000);
     let part = (millionths % 1_000_000) as u32;
@@ -114,4 +115,14 @@ pub(crate) fn push_places(line: &mut LineBuf, millionths: u128)
         b'0' + (part / 10 % 10) as u8,
         b'0' + (part % 10) as u8,
     ]);
+}
+
+/// A number of millionths of 64 bits, with six places: at most 21 bytes.
+#[tactic(auto, using(crate::proofs::Digits::length_millionths))]
+pub(crate) fn push_millionths(line: &mut LineBuf, millionths: u64)
+    requires { length line.old + 38 ≤ 256 }
+    ensures text { line.new ≡ line.old ++ places millionths }
+    ensures len { length line.new ≤ length line.old + 21 }
+{
+    push_places(line, u128::from(millionths));
 }

@@ -1,11 +1,11 @@
 // The rows of a report, and the calls that write them.
 ghost use Rattle.std.specs.Prelude.{◌≡◌, ◌≤◌, length};
-ghost use Rattle.scan_report.specs.Rows.{row_text, IsBoxRow, IsScanRow, IsSummaryRow, IsEndRow};
+ghost use Rattle.scan_report.specs.Rows.{row_text, IsBoxRow, IsRegionRow, IsScanRow, IsSummaryRow, IsEndRow};
 
 use crate::fields::{
     push_at, push_box_word, push_decimal, push_method, push_name, push_net_word, push_ohms,
 };
-use crate::line::{LineBuf, push_number, push_places};
+use crate::line::{LineBuf, push_millionths, push_number, push_places};
 use fixed_decimal::Decimal;
 use study_model::{Method, Name};
 
@@ -46,6 +46,20 @@ pub enum Row {
         lo: u32,
         hi: u32,
         word: BoxWord,
+        at: Option<u32>,
+        micro_ohms: Option<i128>,
+    },
+    /// A longest run of boxes of which none is cleared, by its number from 1 within the scan: its ends, also in millionths of a hertz
+    /// from the low one down to the high one up, and how many peaks and undecided boxes it has. The order and the bound are those of its
+    /// peak with the greatest bound, the first of them.
+    Region {
+        number: u32,
+        lo: u32,
+        hi: u32,
+        hertz_lo: u64,
+        hertz_hi: u64,
+        peaks: u32,
+        undecided: u32,
         at: Option<u32>,
         micro_ohms: Option<i128>,
     },
@@ -127,6 +141,50 @@ pub fn box_row(row: &Row, line: &mut LineBuf)
             push_places(line, u128::from(*hi));
             line.push(b',');
             push_box_word(line, *word);
+            line.push(b',');
+            push_at(line, *at);
+            line.push(b',');
+            push_ohms(line, *micro_ohms);
+            line.push(b'\n');
+        }
+        _ => unreachable!(),
+    }
+}
+
+/// Sets the line to the text of a region.
+/// Condition: the row is of its kind, and its ohms, where it has some, are from 0 to 2^120.
+pub fn region_row(row: &Row, line: &mut LineBuf)
+    requires { IsRegionRow row.now }
+    ensures text { line.new ≡ row_text row.now }
+    ensures len { length line.new ≤ 255 }
+{
+    match row {
+        Row::Region {
+            number,
+            lo,
+            hi,
+            hertz_lo,
+            hertz_hi,
+            peaks,
+            undecided,
+            at,
+            micro_ohms,
+        } => {
+            line.clear();
+            line.push_text(b"region,");
+            push_number(line, *number);
+            line.push(b',');
+            push_millionths(line, u64::from(*lo));
+            line.push(b',');
+            push_millionths(line, u64::from(*hi));
+            line.push(b',');
+            push_millionths(line, *hertz_lo);
+            line.push(b',');
+            push_millionths(line, *hertz_hi);
+            line.push(b',');
+            push_number(line, *peaks);
+            line.push(b',');
+            push_number(line, *undecided);
             line.push(b',');
             push_at(line, *at);
             line.push(b',');
@@ -230,6 +288,39 @@ mod tests {
     }
 
     #[test]
+    fn regions_with_a_peak_and_without(rt: HostRuntime) {
+        let mut line = LineBuf::new();
+        let resonance = Row::Region {
+            number: 1,
+            lo: 4_000_000,
+            hi: 6_000_000,
+            hertz_lo: 200_000_000,
+            hertz_hi: 300_000_000,
+            peaks: 4,
+            undecided: 0,
+            at: Some(5_250_000),
+            micro_ohms: Some(50_186_343),
+        };
+        region_row(&resonance, &mut line);
+        let want = "region,1,4.000000,6.000000,200.000000,300.000000,4,0,5.250000,50.186343\n";
+        assert_eq!(rt; line.as_bytes(), want.as_bytes());
+        let undecided = Row::Region {
+            number: 2,
+            lo: 4_990_000,
+            hi: 5_010_000,
+            hertz_lo: 249_500_000,
+            hertz_hi: 250_500_000,
+            peaks: 0,
+            undecided: 1,
+            at: None,
+            micro_ohms: None,
+        };
+        region_row(&undecided, &mut line);
+        let want = "region,2,4.990000,5.010000,249.500000,250.500000,0,1,-,-\n";
+        assert_eq!(rt; line.as_bytes(), want.as_bytes());
+    }
+
+    #[test]
     fn boxes_of_each_kind(rt: HostRuntime) {
         let mut line = LineBuf::new();
         let cleared = Row::BoxLine {
@@ -270,6 +361,21 @@ mod tests {
         box_row(&row, &mut line);
         let want =
             "box,4294967295,0.000000,0.000001,undecided,4294.967295,1329227995784915872903807060280.344576\n";
+        assert_eq!(rt; line.as_bytes(), want.as_bytes());
+        let region = Row::Region {
+            number: u32::MAX,
+            lo: 0,
+            hi: u32::MAX,
+            hertz_lo: 0,
+            hertz_hi: u64::MAX,
+            peaks: u32::MAX,
+            undecided: 0,
+            at: Some(u32::MAX),
+            micro_ohms: Some(1 << 120),
+        };
+        region_row(&region, &mut line);
+        let want =
+            "region,4294967295,0.000000,4294.967295,0.000000,18446744073709.551615,4294967295,0,4294.967295,1329227995784915872903807060280.344576\n";
         assert_eq!(rt; line.as_bytes(), want.as_bytes());
     }
 }

@@ -41,7 +41,8 @@ box,1,4.800000,5.200000,cleared,-,-
 summary,s1,1,1,0,0,0
 scan,s2,B1,positive,3.400000,3.600000,20.000000,elimination
 box,1,3.400000,3.600000,peak,3.500000,73.143992
-summary,s2,1,0,1,0,0
+region,1,3.400000,3.600000,170.000000,180.000000,1,0,3.500000,73.143992
+summary,s2,1,0,1,0,1
 end,3
 ";
 
@@ -81,7 +82,8 @@ finest = "0.02"
 
 pub const FAR_BANK_REPORT: &str = r"scan,s1,K,positive,4.990000,5.010000,20.000000,elimination
 box,1,4.990000,5.010000,undecided,-,-
-summary,s1,1,0,0,1,0
+region,1,4.990000,5.010000,249.500000,250.500000,0,1,-,-
+summary,s1,1,0,0,1,1
 end,4
 ";
 
@@ -182,13 +184,15 @@ box,3,3.975000,3.982500,undecided,-,-
 box,4,3.982500,3.990000,undecided,-,-
 box,5,3.990000,4.005000,peak,3.997500,10.007842
 box,6,4.005000,4.020000,peak,4.012500,10.066202
-summary,shop,6,0,2,4,0
+region,1,3.960000,4.020000,198.000000,201.000000,2,4,4.012500,10.066202
+summary,shop,6,0,2,4,1
 scan,ground,MAIN,zero,4.000000,4.030000,9.900000,elimination
 box,1,4.000000,4.007500,peak,4.003750,9.935897
 box,2,4.007500,4.015000,peak,4.011250,9.941557
 box,3,4.015000,4.022500,peak,4.018750,9.946545
 box,4,4.022500,4.030000,peak,4.026250,9.950857
-summary,ground,4,0,4,0,0
+region,1,4.000000,4.030000,200.000000,201.500000,4,0,4.026250,9.950857
+summary,ground,4,0,4,0,1
 scan,clear,MAIN,positive,7.000000,7.040000,20.000000,elimination
 box,1,7.000000,7.040000,cleared,-,-
 summary,clear,1,1,0,0,0
@@ -315,7 +319,7 @@ il = "200"
 pub const INDUSTRIAL_FRONT: &str =
     "scan,s1,F3,positive,1.000000,50.000000,400.000000,elimination\nbox,1,1.000000,1.005981,undecided,-,-\n";
 
-pub const INDUSTRIAL_END: &str = "summary,s1,534,518,0,16,0\nend,4\n";
+pub const INDUSTRIAL_END: &str = "summary,s1,534,518,0,16,1\nend,4\n";
 
 /// Two lines of 64 and 56 sections: 120 nodes, as many as a network may have.
 pub const FULL: &str = r#"study = { version = 1, mva = 100 }

@@ -16,6 +16,7 @@ fn reports(rt: HostRuntime) -> Result<(), Fail> {
             0,
         ),
         (studies::WIDE_PEAKS, studies::WIDE_PEAKS_REPORT, 3),
+        (studies::ROUNDED_HERTZ, studies::ROUNDED_HERTZ_REPORT, 3),
         (
             studies::AT_ITS_THRESHOLD,
             studies::AT_ITS_THRESHOLD_REPORT,

@@ -1,20 +1,19 @@
-use Rattle.std.proofs.Common.{◌≡◌, ◌+◌, ◌<◌, ◌≤◌, length}
-use Rattle.harm_io.proofs.Writing.{WroteFront}
-use Rattle.harmscan_core.specs.Report.{counted, no_counts}
-use Rattle.band_subdivision.specs.BoxText.{HasText}
-use Rattle.harmscan_core.specs.Texts.{boxes_text}
+use Rattle.std.proofs.Common.{◌≡◌, ◌+◌, ◌<◌, length}
 use Rattle.std.specs.List.{AllByRecursion}
+use Rattle.harm_io.proofs.Writing.{WroteFront}
+use Rattle.band_subdivision.specs.BoxText.{HasText}
+use Rattle.harmscan_core.specs.Report.{tallied, no_tally}
+use Rattle.harmscan_core.specs.Tallies.{IsTally}
+use Rattle.harmscan_core.specs.Texts.{boxes_text}
 use Rattle.harmscan_core.proofs.report.put_boxes.Given as goal
 
 abbrev pub invariant-boxes : goal.invariant-boxes
 invariant-boxes g l = record {
   text : AllByRecursion HasText l.walk.left;
-  few : l.counts.boxes + length l.walk.left < 4294967295;
-  cleared : l.counts.cleared ≤ l.counts.boxes;
-  peaks : l.counts.peaks ≤ l.counts.boxes;
-  undecided : l.counts.undecided ≤ l.counts.boxes;
-  counts : counted l.counts l.walk.left ≡ counted no_counts l.initial.walk.left;
-  wrote : WroteFront (g.O.Sink.state l.initial.out) (g.O.Sink.state l.out) (boxes_text (l.counts.boxes + 1) l.walk.left) (boxes_text 1 l.initial.walk.left);
+  few : l.tally.counts.boxes + length l.walk.left < 4294967295;
+  tally : IsTally l.tally;
+  counts : tallied l.tally l.walk.left ≡ tallied no_tally l.initial.walk.left;
+  wrote : WroteFront (g.O.Sink.state l.initial.out) (g.O.Sink.state l.out) (boxes_text l.hz l.tally l.walk.left) (boxes_text l.hz no_tally l.initial.walk.left);
 }
 
 abbrev pub decreases-boxes : goal.decreases-boxes

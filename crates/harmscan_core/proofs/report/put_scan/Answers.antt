@@ -7,5 +7,6 @@ use Rattle.harmscan_core.proofs.report.put_scan.Goals as goal
 pub returns-in-Err-clause-wrote : goal.returns-in-Err-clause-wrote
 unfolding scan_text
 returns-in-Err-clause-wrote g c =
-    writes_stop (Unit {0}) Counts (head_text c.args.study.now c.args.scan.now) (body_text c.args.scan.now (boxes_in c.args.study.now c.args.scan.now))
+    let study = c.args.study.now in
+    writes_stop (Unit {0}) Counts (head_text study c.args.scan.now) (body_text study.hz c.args.scan.now (boxes_in study c.args.scan.now))
     (g.O.Sink.state c.args.out.now) (g.O.Sink.state c.put_head.new.out) c.in-Err.fault c.in-Err.ensures

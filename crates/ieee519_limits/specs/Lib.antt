@@ -1,0 +1,3 @@
+pub mod VoltageLimits
+pub mod CurrentLimits
+pub mod Verdicts

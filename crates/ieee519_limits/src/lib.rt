@@ -1,0 +1,15 @@
+// Limits of harmonic voltages and currents, and verdicts by them. Each figure is this project's own, written after tables 1 to 4 of IEEE
+// Std 519-2022. All values are ten-thousandths of a percent.
+#![tactic(auto)]
+
+mod bounds;
+mod current;
+mod judging;
+#[cfg(test)]
+mod tests;
+mod voltage;
+
+pub use bounds::{PercentBounds, Verdict};
+pub use current::{current_limit, tdd_limit};
+pub use judging::verdict;
+pub use voltage::{VoltageLimit, voltage_limit};

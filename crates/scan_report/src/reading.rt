@@ -1,0 +1,232 @@
+// Reports read back.
+ghost use Rattle.std.specs.Prelude.{◌≡◌, ◌≢◌, ◌<◌, ◌^◌, ◌↔◌, IsTrue, IfOk, IfErr, IfSome, IfNone, ℕ, List, [], ◌++◌, length, MatchOption};
+ghost use Rattle.scan_report.specs.Rows.{row_text};
+ghost use Rattle.scan_report.specs.Reading.{ended, MayStand, IsRow, IsReport, BadLine, stage_after};
+ghost use Rattle.scan_report.specs.Stands.{stage_of, BeginsText, BeginsWith, BeginsWithNone};
+
+use crate::line::LineBuf;
+use crate::loose::row_of;
+use crate::rows::{Row, box_row, end_row, region_row, scan_row, summary_row};
+use sqlite_items::Items;
+use std::alloc::Global;
+
+/// The rows of a report.
+#[derive(Drop)]
+pub struct Report {
+    pub rows: Items<Row>,
+}
+
+/// Why a text is no report.
+#[derive(Clone, Copy, Debug, PartialEq, Eq)]
+pub enum ReportFault {
+    /// This line, from 1 on, is no row that may stand there.
+    BadRow(u32),
+    NoMemory,
+}
+
+/// Where a reader stands.
+#[derive(Clone, Copy)]
+enum Stand {
+    Between,
+    Within,
+    Ended,
+}
+
+/// A row and the length of its text.
+#[derive(Clone, Copy)]
+struct Found {
+    row: Row,
+    len: usize,
+}
+
+fn may_stand(stand: Stand, row: &Row) -> bool
+    ensures { IsTrue result ↔ MayStand (stage_of stand) row.now }
+{
+    match (stand, row) {
+        (Stand::Between, Row::Scan { .. } | Row::End { .. }) => true,
+        (Stand::Within, Row::BoxLine { .. } | Row::Region { .. } | Row::Summary { .. }) => true,
+        _ => false,
+    }
+}
+
+fn stand_after(row: &Row) -> Stand
+    ensures { stage_of result ≡ stage_after row.now }
+{
+    match row {
+        Row::Scan { .. } | Row::BoxLine { .. } | Row::Region { .. } => Stand::Within,
+        Row::Summary { .. } => Stand::Between,
+        Row::End { .. } => Stand::Ended,
+    }
+}
+
+fn write_row(row: &Row, line: &mut LineBuf)
+    requires { IsRow row.now }
+    ensures { line.new ≡ row_text row.now }
+{
+    match row {
+        Row::Scan { .. } => scan_row(row, line),
+        Row::BoxLine { .. } => box_row(row, line),
+        Row::Region { .. } => region_row(row, line),
+        Row::Summary { .. } => summary_row(row, line),
+        Row::End { .. } => end_row(row, line),
+    }
+}
+
+/// The length of a row's text, where a text begins with it.
+fn text_len(text: &[u8], row: &Row) -> Option<usize>
+    requires { IsRow row.now }
+    ensures { MatchOption result ((after : List ℕ) → ¬ (text.now ≡ row_text row.now ++ after)) (λ len. BeginsText text.now (row_text row.now) len) }
+{
+    let mut line = LineBuf::new();
+    write_row(row, &mut line);
+    let own = line.as_bytes();
+    if text.starts_with(own) {
+        Some(own.len())
+    } else {
+        None
+    }
+}
+
+/// The row that a text begins with, if it begins with one that may stand there.
+fn read_row(stand: Stand, text: &[u8]) -> Option<Found>
+    ensures none { IfNone result (BeginsWithNone (stage_of stand) text.now) }
+    ensures some { IfSome result (λ found. BeginsWith (stage_of stand) text.now found.row found.len) }
+{
+    let row = row_of(text);
+    if !may_stand(stand, &row) {
+        return None;
+    }
+    match text_len(text, &row) {
+        Some(len) => Some(Found { row, len }),
+        None => None,
+    }
+}
+
+/// Whether a report is at its end.
+fn is_done(stand: Stand, rest: &[u8]) -> bool
+    ensures { IsTrue result ↔ ((stage_of stand ≡ ended) × (rest.now ≡ [])) }
+{
+    matches!(stand, Stand::Ended) && rest.is_empty()
+}
+
+/// The rows of a report, from its bytes. `BadRow` with the number, from 1, of the first line that is no row which may stand there, or of the line
+/// past the last one where the last row of a report is absent. A line that differs in one byte from a row's own text, as by a leading zero,
+/// a quote or a carriage return, is no row.
+pub fn read_report(alloc: Global, bytes: &[u8]) -> Result<Report, ReportFault>
+    requires { length bytes.now < 2 ^ 32 }
+    ensures read { IfOk result (λ report. IsReport bytes.now report.rows) }
+    ensures refused { IfErr result (λ fault. fault ≢ ReportFault.NoMemory → BadLine bytes.now fault) }
+{
+    let mut rows = Items::new(alloc);
+    let mut place = 0;
+    let mut stand = Stand::Between;
+    'rows: loop {
+        if is_done(stand, &bytes[place..]) {
+            return Ok(Report { rows });
+        }
+        let Some(found) = read_row(stand, &bytes[place..]) else {
+            return Err(ReportFault::BadRow(rows.len() as u32 + 1));
+        };
+        stand = stand_after(&found.row);
+        place += found.len;
+        if rows.push(found.row).is_err() {
+            return Err(ReportFault::NoMemory);
+        }
+    }
+}
+
+#[cfg(test)]
+mod tests {
+    use super::*;
+
+    const REPORT: &str =
+        "scan,s1,B1,positive,1.000000,10.000000,20.000000,elimination\nbox,1,1.000000,10.000000,cleared,-,-\nsummary,s1,1,1,0,0,0\nend,0\n";
+
+    /// How many rows a text has, or why it is no report.
+    fn row_count(alloc: Global, text: &str) -> Result<usize, ReportFault>
+        requires { length text.now < 2 ^ 32 }
+    {
+        match read_report(alloc, text.as_bytes()) {
+            Ok(report) => Ok(report.rows.len()),
+            Err(fault) => Err(fault),
+        }
+    }
+
+    #[test]
+    fn whole_reports(rt: HostRuntime) {
+        assert_eq!(rt; row_count(rt.alloc(), REPORT), Ok(4));
+        assert_eq!(rt; row_count(rt.alloc(), "end,3\n"), Ok(1));
+        let peaks =
+            "scan,s.1,B_1,c,3.000000,7.000000,0.000001,both\nbox,1,3.000000,7.000000,peak,5.250000,50.186343\nregion,1,4.000000,6.000000,200.000000,18446744073709.551615,4,4294967295,5.250000,1329227995784915872903807060280.344576\nsummary,s.1,1,0,1,0,1\nend,3\n";
+        assert_eq!(rt; row_count(rt.alloc(), peaks), Ok(5));
+    }
+
+    /// A region's end in millionths of a hertz, its order and its bound.
+    fn region_at(
+        alloc: Global,
+        text: &str,
+        index: usize,
+    ) -> Option<(u64, Option<u32>, Option<i128>)>
+        requires { length text.now < 2 ^ 32 }
+    {
+        let report = read_report(alloc, text.as_bytes()).ok()?;
+        match report.rows.get(index) {
+            Some(
+                Row::Region {
+                    hertz_hi,
+                    at,
+                    micro_ohms,
+                    ..
+                },
+            ) => Some((*hertz_hi, *at, *micro_ohms)),
+            _ => None,
+        }
+    }
+
+    #[test]
+    fn a_region_with_a_peak(rt: HostRuntime) {
+        let text =
+            "scan,s,B,zero,3.000000,7.000000,0.000001,both\nregion,1,4.000000,6.000000,200.000000,18446744073709.551615,4,0,5.250000,1329227995784915872903807060280.344576\nsummary,s,0,0,0,0,1\nend,3\n";
+        assert_eq!(rt;
+            region_at(rt.alloc(), text, 1),
+            Some((u64::MAX, Some(5_250_000), Some(1 << 120)))
+        );
+        assert_eq!(rt; region_at(rt.alloc(), text, 2), None);
+    }
+
+    #[test]
+    fn bad_lines(rt: HostRuntime) {
+        let bad = |line: u32| Err(ReportFault::BadRow(line));
+        assert_eq!(rt; row_count(rt.alloc(), ""), bad(1));
+        assert_eq!(rt; row_count(rt.alloc(), "\n"), bad(1));
+        assert_eq!(rt; row_count(rt.alloc(), "end,0"), bad(1));
+        assert_eq!(rt; row_count(rt.alloc(), "end,0\r\n"), bad(1));
+        assert_eq!(rt; row_count(rt.alloc(), "end,4294967296\n"), bad(1));
+        assert_eq!(rt; row_count(rt.alloc(), "\"end\",0\n"), bad(1));
+        assert_eq!(rt; row_count(rt.alloc(), "end,0\nend,0\n"), bad(2));
+        assert_eq!(rt;
+            row_count(rt.alloc(), "summary,s1,1,1,0,0,0\nend,0\n"),
+            bad(1)
+        );
+        let scan = "scan,s1,B1,positive,1.000000,10.000000,20.000000,elimination\n";
+        assert_eq!(rt; row_count(rt.alloc(), scan), bad(2));
+    }
+
+    #[test]
+    fn bad_lines_of_a_scan(rt: HostRuntime) {
+        let bad = |line: u32| Err(ReportFault::BadRow(line));
+        let zero =
+            "scan,s1,B1,positive,1.000000,10.000000,20.000000,elimination\nbox,01,1.000000,10.000000,cleared,-,-\nsummary,s1,1,1,0,0,0\nend,0\n";
+        assert_eq!(rt; row_count(rt.alloc(), zero), bad(2));
+        let unended =
+            "scan,s1,B1,positive,1.000000,10.000000,20.000000,elimination\nbox,1,1.000000,10.000000,cleared,-,-\nsummary,s1,1,1,0,0,0\n";
+        assert_eq!(rt; row_count(rt.alloc(), unended), bad(4));
+        let past =
+            "scan,s1,B1,positive,1.000000,10.000000,20.000000,elimination\nbox,1,1.000000,10.000000,cleared,-,-\nsummary,s1,1,1,0,0,0\nend,0\nend,0\n";
+        assert_eq!(rt; row_count(rt.alloc(), past), bad(5));
+        let early = "scan,s1,B1,positive,1.000000,10.000000,20.000000,elimination\nend,0\n";
+        assert_eq!(rt; row_count(rt.alloc(), early), bad(2));
+        let no_threshold = "scan,s1,B1,positive,1.000000,10.000000,0.000000,elimination\n";
+        assert_eq!(rt; row_count(rt.alloc(), no_threshold), bad(1));
+    }
+}
