@@ -1,9 +1,7 @@
-// Studies read, and studies refused, by the call of the reader.
+// Studies as the call of the reader gives them.
 use std::alloc::{AllocError, Global};
 use std::test::Fail;
-use study_model::{
-    Bank, Bus, Key, Method, Place, ScanItem, Section, Source, Study, StudyFault, StudyModel,
-};
+use study_model::{Bank, Bus, Method, ScanItem, Source, Study, StudyModel};
 use study_reader::read_study;
 
 const STUDY: &str = "[study]\nversion = 1\nmva = \"100\"\n";
@@ -23,13 +21,6 @@ fn joined(alloc: Global, pieces: &[&str]) -> Result<String, AllocError> {
         text.push_str(piece)?;
     }
     Ok(text)
-}
-
-fn fault_of(alloc: Global, bytes: &[u8]) -> Option<StudyFault> {
-    match read_study(alloc, bytes) {
-        Ok(_) => None,
-        Err(fault) => Some(fault),
-    }
 }
 
 fn is_usual(study: &Study) -> bool {
@@ -96,193 +87,10 @@ fn a_bank_and_a_coarser_search(rt: HostRuntime) -> Result<(), Fail> {
     Ok(())
 }
 
-#[test]
-fn no_table(rt: HostRuntime) {
-    let not_toml = Some(StudyFault::NotToml);
-    assert_eq!(rt; fault_of(rt.alloc(), b"a = \"\xff\"\n"), not_toml);
-    assert_eq!(rt; fault_of(rt.alloc(), b"[study\n"), not_toml);
-}
-
-/// Studies that are refused: the text, and the fault.
-fn fault_at(number: u32, section: Section, entry: u32, key: Key) -> StudyFault {
-    let place = Place {
-        section,
-        entry,
-        key,
-    };
-    match number {
-        3 => StudyFault::MissingKey(place),
-        4 => StudyFault::UnknownKey(place),
-        5 => StudyFault::WrongKind(place),
-        6 => StudyFault::BareDecimal(place),
-        7 => StudyFault::BadDecimal(place),
-        8 => StudyFault::OutOfRange(place),
-        9 => StudyFault::BadName(place),
-        10 => StudyFault::DuplicateName(place),
-        11 => StudyFault::UnknownBus(place),
-        12 => StudyFault::TooMany(place),
-        13 => StudyFault::BadBand(place),
-        14 => StudyFault::TooFine(place),
-        17 => StudyFault::NotBuilt(place),
-        _ => StudyFault::UnknownElement(place),
-    }
-}
-
-/// Whether the study of these pieces is refused so.
-fn is_refused(alloc: Global, pieces: &[&str], fault: StudyFault) -> Result<bool, AllocError> {
-    let text = joined(alloc, pieces)?;
-    Ok(fault_of(alloc, text.as_bytes()) == Some(fault))
-}
-
 const POINT: &str =
     "[[pcc]]\nname = \"P1\"\nbus = \"B1\"\nelement = \"S1\"\nisc = 6000\nil = 200\n";
 
-const PART_OF_A_GROUP: &str =
-    "[[bus]]\nname = \"B2\"\nkv = 10\n[[line]]\nname = \"L1\"\nfrom = \"B1\"\nto = \"B2\"\nr = 0\nx = 1\nxbc = 1\n";
-
 const LOAD: &str = "[[load]]\nname = \"D1\"\nbus = \"B1\"\nmodel = \"cigre\"\np = 1\nq = 1\n";
-
-#[test]
-fn faults_of_sections(rt: HostRuntime) -> Result<(), Fail> {
-    let table = [
-        ("", BUS, 3, Section::Study, 0, Key::Nothing),
-        ("study = 1\n", BUS, 5, Section::Study, 0, Key::Nothing),
-        (
-            "[study]\nmva = 1\n",
-            BUS,
-            3,
-            Section::Study,
-            1,
-            Key::Version,
-        ),
-        (STUDY, "hz = 60.0\n", 6, Section::Study, 1, Key::Hz),
-        (STUDY, "zz = 60.0\n", 4, Section::Study, 1, Key::Nothing),
-        (STUDY, "hz = \"0.9\"\n", 8, Section::Study, 1, Key::Hz),
-        (
-            STUDY,
-            "model = \"phase\"\n",
-            5,
-            Section::Study,
-            1,
-            Key::Model,
-        ),
-        (
-            STUDY,
-            "method = \"both\"\n",
-            5,
-            Section::Study,
-            1,
-            Key::Method,
-        ),
-        (STUDY, "scale = 41\n", 8, Section::Study, 1, Key::Scale),
-        (STUDY, "bus = []\n", 4, Section::Study, 1, Key::Nothing),
-        (STUDY, SOURCE, 3, Section::Bus, 0, Key::Nothing),
-        ("bus = []\n", STUDY, 3, Section::Bus, 0, Key::Nothing),
-        ("zz = 1\n", BUS, 4, Section::Top, 0, Key::Nothing),
-        ("bus = 1\n", STUDY, 5, Section::Bus, 0, Key::Nothing),
-        ("bus = [1]\n", STUDY, 5, Section::Bus, 1, Key::Nothing),
-    ];
-    for (first, second, number, section, entry, key) in table {
-        let fault = fault_at(number, section, entry, key);
-        assert!(rt;
-            is_refused(rt.alloc(), &[first, second], fault)?,
-            "{first}{second}"
-        );
-    }
-    Ok(())
-}
-
-#[test]
-fn faults_of_entries(rt: HostRuntime) -> Result<(), Fail> {
-    let table = [
-        (
-            "[[source]]\nname = \"\"\n",
-            9,
-            Section::Source,
-            2,
-            Key::Name,
-        ),
-        (
-            "[[source]]\nname = \"B1\"\n",
-            10,
-            Section::Source,
-            2,
-            Key::Name,
-        ),
-        (
-            "[[source]]\nname = \"S2\"\nbus = \"B3\"\n",
-            11,
-            Section::Source,
-            2,
-            Key::Bus,
-        ),
-        (
-            "[[bank]]\nname = \"K1\"\nbus = \"B1\"\nq = 0\n",
-            8,
-            Section::Bank,
-            1,
-            Key::Q,
-        ),
-        (
-            "[[bank]]\nname = \"K1\"\nbus = \"B1\"\nq = \"-4\"\n",
-            8,
-            Section::Bank,
-            1,
-            Key::Q,
-        ),
-        (
-            "[[bank]]\nname = \"K1\"\nbus = \"B1\"\nq = \"1e3\"\n",
-            7,
-            Section::Bank,
-            1,
-            Key::Q,
-        ),
-        (
-            "[[bank]]\nname = \"K1\"\nbus = \"B1\"\nq = 1\nphase = \"a\"\n",
-            4,
-            Section::Bank,
-            1,
-            Key::Phase,
-        ),
-        (
-            "[[pcc]]\nname = \"P1\"\nbus = \"B1\"\nelement = \"B1\"\n",
-            18,
-            Section::Pcc,
-            1,
-            Key::Element,
-        ),
-        (
-            "[[load]]\nname = \"D1\"\nbus = \"B1\"\nmodel = \"series\"\np = 1\n",
-            4,
-            Section::Load,
-            1,
-            Key::P,
-        ),
-        (
-            "[[load]]\nname = \"D1\"\nbus = \"B1\"\nmodel = \"cigre\"\np = 0\n",
-            8,
-            Section::Load,
-            1,
-            Key::P,
-        ),
-        (
-            "[[line]]\nname = \"L1\"\nfrom = \"B1\"\nto = \"B1\"\n",
-            8,
-            Section::Line,
-            1,
-            Key::To,
-        ),
-        (PART_OF_A_GROUP, 3, Section::Line, 1, Key::Xab),
-    ];
-    for (text, number, section, entry, key) in table {
-        let fault = fault_at(number, section, entry, key);
-        assert!(rt;
-            is_refused(rt.alloc(), &[STUDY, BUS, SOURCE, SCAN, text], fault)?,
-            "{text}"
-        );
-    }
-    Ok(())
-}
 
 #[test]
 fn points_and_other_scans(rt: HostRuntime) -> Result<(), Fail> {
@@ -294,8 +102,5 @@ fn points_and_other_scans(rt: HostRuntime) -> Result<(), Fail> {
         assert_eq!(rt; point.element, 1);
         assert_eq!(rt; point.il.millionths, 200_000_000);
     }
-    let other_form = fault_at(17, Section::Study, 1, Key::Model);
-    let pieces = [STUDY, "model = \"phases\"\n", BUS, SOURCE];
-    assert!(rt; is_refused(rt.alloc(), &pieces, other_form)?);
     Ok(())
 }
