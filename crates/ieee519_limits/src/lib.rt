@@ -5,8 +5,6 @@
 mod bounds;
 mod current;
 mod judging;
-#[cfg(test)]
-mod tests;
 mod voltage;
 
 pub use bounds::{PercentBounds, Verdict};

@@ -87,27 +87,3 @@ impl Name {
         &self.bytes[..self.len as usize]
     }
 }
-
-#[cfg(test)]
-mod tests {
-    use super::*;
-
-    #[test]
-    fn names(rt: HostRuntime) {
-        for text in ["B1", "a", "A-z_0.9", "abcdefghijklmnopqrstuvwxyz012345"] {
-            assert!(rt;
-                Name::parse(text.as_bytes()).is_some_and(|name| name.as_bytes() == text.as_bytes()),
-                "{text}"
-            );
-        }
-        for text in [
-            "",
-            "a b",
-            "a,b",
-            "\u{e9}",
-            "abcdefghijklmnopqrstuvwxyz0123456",
-        ] {
-            assert!(rt; Name::parse(text.as_bytes()).is_none(), "{text}");
-        }
-    }
-}

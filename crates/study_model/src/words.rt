@@ -242,31 +242,3 @@ impl FilterKind {
         }
     }
 }
-
-#[cfg(test)]
-mod tests {
-    use super::*;
-
-    #[test]
-    fn words(rt: HostRuntime) {
-        assert_eq!(rt; StudyModel::from_text("phases"), Some(StudyModel::Phases));
-        assert_eq!(rt; StudyModel::Sequence.text(), "sequence");
-        assert_eq!(rt; Method::from_text("both"), Some(Method::Both));
-        assert_eq!(rt; Method::from_text("Both"), None);
-        assert_eq!(rt; Method::Elimination.text(), "elimination");
-        assert_eq!(rt; Sequence::from_text("zero"), Some(Sequence::Zero));
-        assert_eq!(rt; Sequence::Positive.text(), "positive");
-        assert_eq!(rt; Phase::from_text("c"), Some(Phase::C));
-        assert_eq!(rt; Phase::from_text("d"), None);
-        assert_eq!(rt; Connection::from_text("delta"), Some(Connection::Delta));
-        assert_eq!(rt; Connection::Grounded.text(), "grounded");
-        assert_eq!(rt; LoadModel::from_text("cigre"), Some(LoadModel::Cigre));
-        assert_eq!(rt; LoadModel::from_text("series"), Some(LoadModel::Series));
-        assert_eq!(rt;
-            FilterKind::from_text("highpass"),
-            Some(FilterKind::HighPass)
-        );
-        assert_eq!(rt; FilterKind::CType.text(), "ctype");
-        assert_eq!(rt; FilterKind::from_text(""), None);
-    }
-}

@@ -1,0 +1,17 @@
+// Worked cases of the crates study_model, scan_report and ieee519_limits.
+#![tactic(auto)]
+
+#[cfg(test)]
+mod faults;
+#[cfg(test)]
+mod limits;
+#[cfg(test)]
+mod names;
+#[cfg(test)]
+mod ranges;
+#[cfg(test)]
+mod readings;
+#[cfg(test)]
+mod rows;
+#[cfg(test)]
+mod words;
