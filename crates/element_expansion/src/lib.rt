@@ -4,8 +4,6 @@
 mod branches;
 mod element;
 mod per_unit;
-#[cfg(test)]
-mod tests;
 
 pub use branches::{between, series, skin_series, to_ground};
 pub use element::{Parts, add_plain};

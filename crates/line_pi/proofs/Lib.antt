@@ -1,4 +1,3 @@
 pub mod Cascade
 pub mod Plain
 pub mod Small
-pub mod Worked

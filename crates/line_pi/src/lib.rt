@@ -3,7 +3,5 @@
 
 mod line;
 mod section;
-#[cfg(test)]
-mod tests;
 
 pub use line::add_line;

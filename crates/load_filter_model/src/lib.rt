@@ -2,21 +2,11 @@
 #![tactic(auto)]
 
 mod bank;
-#[cfg(test)]
-mod bank_tests;
 mod cigre;
 mod filter;
-#[cfg(test)]
-mod filter_tests;
 mod grounded;
 mod load;
-#[cfg(test)]
-mod load_tests;
-#[cfg(test)]
-mod samples;
 mod source;
-#[cfg(test)]
-mod source_tests;
 mod tuned;
 
 pub use bank::add_bank;

@@ -1,5 +1,4 @@
 pub mod Growth
 pub mod Liveness
 pub mod AtOrderTwo
-pub mod Lawful
 pub mod LiveRefusals

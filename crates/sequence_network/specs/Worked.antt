@@ -1,10 +1,9 @@
 -- A study of one bus that can be worked by hand: at 10 kV and 100 MVA one ohm is one per unit.
-use Rattle.std.specs.Prelude.{ℕ, ℤ, pos, Bool, false, [], ◌∷◌, codes, Option, Some, None}
+use Rattle.std.specs.Prelude.{pos, false, [], ◌∷◌, codes, Some, None}
 use Rattle.exact_algebra.specs.Complex.{complex_over}
 use Rattle.network_theory.specs.DrivingPoint.{IsDrivingPoint}
 use Rattle.study_model.specs.declared.words.StudyModel.TheVariants as study_model
 use Rattle.study_model.specs.declared.words.Method.TheVariants as method
-use Rattle.study_model.specs.declared.words.Sequence.{Sequence}
 use Rattle.study_model.specs.declared.words.Sequence.TheVariants as sequence
 use Rattle.study_model.specs.declared.words.LoadModel.TheVariants as load_model
 use Rattle.study_model.specs.declared.records.Study.{Study}
@@ -35,24 +34,3 @@ worked_study = record {
 -- At order 2 its admittances are -j/2, 1/25, -j/100, (3 - 8j)/73 and 2j/25; the impedance is (11840 + 78780j)/43469.
 abbrev pub AtOrderTwo : Type 0
 AtOrderTwo = IsDrivingPoint (network_of worked_study sequence.Positive) (record { n = 2; d = 1 }) 0 (complex_over (pos 11840) (pos 78780) 43469)
-
--- two buses; a source of 1 ohm at bus 0, with an impedance in the zero network or none; a bank; and a scan at bus 0 in one of the networks
-abbrev pub worked_pair : Option ℤ → ℕ → Bool → Sequence → Study
-worked_pair zero bank_bus grounded scanned = record {
-  version = 1;
-  mva = pos 100000000;
-  hz = pos 50000000;
-  model = study_model.Sequence;
-  scale = 40;
-  method = method.Elimination;
-  root3 = pos 1732051;
-  buses = record { name = codes "B1"; kv = pos 10000000 } ∷ record { name = codes "B2"; kv = pos 10000000 } ∷ [];
-  sources = record { name = codes "S1"; bus = 0; r = pos 0; x = pos 1000000; r0 = zero; x0 = zero; skin_k = pos 0; skin_m = pos 1000000 } ∷ [];
-  lines = [];
-  transformers = [];
-  loads = [];
-  banks = record { name = codes "K1"; bus = bank_bus; q = pos 1000000; grounded = grounded; phase = None } ∷ [];
-  filters = [];
-  scans = record { name = codes "s1"; bus = 0; network = scanned; phase = None; from = pos 1000000; to = pos 10000000; threshold = pos 1000000; finest = pos 1000000; locate = pos 1000000 } ∷ [];
-  points = [];
-}

@@ -4,10 +4,8 @@
 mod build;
 mod elements;
 mod live;
-#[cfg(test)]
-mod tests;
 mod worked;
 
 pub use build::build_sequence;
 pub use live::check_live;
-pub use worked::{impedance_by_hand, worked_pair_is_lawful};
+pub use worked::impedance_by_hand;

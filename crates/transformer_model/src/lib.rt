@@ -3,8 +3,6 @@
 
 mod leakage;
 mod neutral;
-#[cfg(test)]
-mod tests;
 mod transformer;
 mod zero;
 
