@@ -10,7 +10,7 @@ use Rattle.network_theory.specs.Live.{Live}
 use Rattle.network_theory.specs.Between.{IsPair, LiesBetween}
 use Rattle.network_theory.specs.Admittance.{Part}
 use Rattle.network_theory.specs.Nodal.{IsNodalSystem, IsLast}
-use Rattle.network_theory.specs.Scanned.{IsReducedTo}
+use Rattle.network_theory.specs.Reduced.{IsReducedTo}
 use Rattle.plain_elimination.specs.Elimination.{HoldsRows}
 use Rattle.plain_elimination.specs.Rectangles.{reduce_boxes}
 use Rattle.admittance_box.specs.BoxMatrix.{box_matrix}

@@ -20,7 +20,7 @@ use Rattle.network_theory.specs.Network.{Network}
 use Rattle.network_theory.specs.Between.{LiesBetween}
 use Rattle.network_theory.specs.Extra.{with_shunt}
 use Rattle.network_theory.specs.Impedance.{shunt_admittance}
-use Rattle.network_theory.specs.Scanned.{IsReducedTo}
+use Rattle.network_theory.specs.Reduced.{IsReducedTo}
 use Rattle.network_theory.proofs.Extra.{extra_shunt}
 use Rattle.admittance_box.specs.HeldMatrix.{CanAssemble, HoldsReduced}
 use Rattle.admittance_box.specs.Orders.{order_ends}

@@ -2,8 +2,9 @@
 use Rattle.std.proofs.Common.{◌≡◌, ◌≢◌, ℕ, suc, ◌≤◌, ◌<◌, List, [], ◌∷◌, ◌++◌, length, refl, sym, ap, subst, ◌∙◌, arith}
 use Rattle.std.specs.Prelude.{map}
 use Rattle.std.specs.List.{AllByRecursion}
-use Rattle.network_theory.specs.Branch.{Law, Series, Shunt, Coupled3, Coupling, Branch as E}
-use Rattle.network_theory.specs.Network.{IsGroup, IsGrouped, IsUncoupled, done, alone, group}
+use Rattle.network_theory.specs.Branch.{Law, Series, Shunt, Coupled3, Coupling, SameCoupling, Branch as E}
+use Rattle.network_theory.specs.Network.{HasPlace, IsGroup, IsGrouped, IsUncoupled, done, alone, group}
+use Rattle.network_theory.proofs.Couplings.{coupling_same, coupling_next}
 use Rattle.net_branch.specs.Exact.{exact_branch}
 use Rattle.net_branch.specs.Next.{uncoupled, first, later, NextKeepsGrouping}
 use Rattle.net_branch.proofs.Wholes.{uncoupled_grouped, grouped_grouping, grouped_append, each_append, each_weaker, each_map, mapped_push}
@@ -35,42 +36,45 @@ each_front P (x ∷ xs) y ys h = let k = each_front P xs y ys h.1 in ((h.0, k.0)
 -- the premises on the branch b that comes after a
 record Follows (a b : E) : Type 0 where
   place : ℕ
-  values : Coupling
   below : place < 2
-  law_a : a.law ≡ Coupled3 place values
-  law_b : b.law ≡ Coupled3 (suc place) values
+  last : HasPlace a place
+  next : HasPlace b (suc place)
+  same : SameCoupling next.values last.values
   group_b : b.group ≡ a.group
   owner_b : b.owner ≡ a.owner
 
-place_of : Law → ℕ
-place_of (Coupled3 p v) = p
-place_of (Series r k m x xc) = 0
-place_of (Shunt y) = 0
+-- a branch has one place and one coupling
+record Alike (p q : ℕ) (c d : Coupling) : Type 0 where
+  place : p ≡ q
+  values : c ≡ d
+
+alike : (b : E) (p q : ℕ) (c d : Coupling) → b.law ≡ Coupled3 p c → b.law ≡ Coupled3 q d → Alike p q c d
+alike b p q c d e f = let g : Coupled3 p c ≡ Coupled3 q d = sym e ∙ f in record { place = cc; values = cc }
 
 ends : (L : List E) → IsGrouped L → (front : List E) (a : E) (rest : List E) (b : E) → L ≡ front ++ a ∷ rest → length rest ≤ 2 → Follows a b → Ends front a b
 ends L done [] a rest b e l f = absurd cc
 ends L done (y ∷ front) a rest b e l f = absurd cc
 ends L (alone x xs u g) [] a rest b e l f =
     let same : x ≡ a = cc in
-    absurd (not_coupled a f.place f.values (subst IsUncoupled same u) f.law_a)
+    absurd (not_coupled a f.place f.last.values (subst IsUncoupled same u) f.last.law)
 ends L (alone x xs u g) (y ∷ front) a rest b e l f =
     let same : x ≡ y = cc in
     let tail : xs ≡ front ++ a ∷ rest = cc in
     let r = ends xs g front a rest b tail l f in
     record { rest = r.rest; few = r.few; grouped = alone y (front ++ a ∷ b ∷ r.rest) (subst IsUncoupled same u) r.grouped; same = r.same }
-ends L (group x y z vs xs g r s) [] a rest b e l f =
+ends L (group x y z xs g r s) [] a rest b e l f =
     let same : x ≡ a = cc in
-    let first_law : a.law ≡ Coupled3 0 vs = subst (λ w. w.law ≡ Coupled3 0 vs) same g.first in
-    let law : Coupled3 f.place f.values ≡ Coupled3 0 vs = sym f.law_a ∙ first_law in
-    let place : f.place ≡ 0 = cc in
-    let values : f.values ≡ vs = cc in
+    let first_law : a.law ≡ Coupled3 0 g.first.values = subst (λ w. w.law ≡ Coupled3 0 g.first.values) same g.first.law in
+    let one = alike a f.place 0 f.last.values g.first.values f.last.law first_law in
     record {
       rest = z ∷ [];
       few = omega arith;
-      grouped = group a b z vs [] (record {
-        first = first_law;
-        second = f.law_b ∙ ap (λ p. Coupled3 (suc p) f.values) place ∙ ap (λ v. Coupled3 1 v) values;
+      grouped = group a b z [] (record {
+        first = record { values = g.first.values; law = first_law };
+        second = record { values = f.next.values; law = f.next.law ∙ ap (λ p. Coupled3 (suc p) f.next.values) one.place };
         third = g.third;
+        equal_second = subst (λ v. SameCoupling f.next.values v) one.values f.same;
+        equal_third = g.equal_third;
         number = subst (λ w. w.group ≢ 0) same g.number;
         same_second = f.group_b;
         same_third = g.same_third ∙ ap (λ w. w.group) same;
@@ -79,22 +83,22 @@ ends L (group x y z vs xs g r s) [] a rest b e l f =
       }) tt done;
       same = (g.same_third ∙ ap (λ w. w.group) same, tt);
     }
-ends L (group x y z vs xs g r s) (x' ∷ []) a rest b e l f =
+ends L (group x y z xs g r s) (x' ∷ []) a rest b e l f =
     let same : x ≡ x' = cc in
     let second : y ≡ a = cc in
-    let second_law : a.law ≡ Coupled3 1 vs = subst (λ w. w.law ≡ Coupled3 1 vs) second g.second in
-    let law : Coupled3 f.place f.values ≡ Coupled3 1 vs = sym f.law_a ∙ second_law in
-    let place : f.place ≡ 1 = cc in
-    let values : f.values ≡ vs = cc in
+    let second_law : a.law ≡ Coupled3 1 g.second.values = subst (λ w. w.law ≡ Coupled3 1 g.second.values) second g.second.law in
+    let one = alike a f.place 1 f.last.values g.second.values f.last.law second_law in
     let group_a : a.group ≡ x'.group = ap (λ w. w.group) (sym second) ∙ g.same_second ∙ ap (λ w. w.group) same in
     let owner_a : a.owner ≡ x'.owner = ap (λ w. w.owner) (sym second) ∙ g.owner_second ∙ ap (λ w. w.owner) same in
     record {
       rest = [];
       few = omega arith;
-      grouped = group x' a b vs [] (record {
-        first = subst (λ w. w.law ≡ Coupled3 0 vs) same g.first;
-        second = second_law;
-        third = f.law_b ∙ ap (λ p. Coupled3 (suc p) f.values) place ∙ ap (λ v. Coupled3 2 v) values;
+      grouped = group x' a b [] (record {
+        first = record { values = g.first.values; law = subst (λ w. w.law ≡ Coupled3 0 g.first.values) same g.first.law };
+        second = record { values = g.second.values; law = second_law };
+        third = record { values = f.next.values; law = f.next.law ∙ ap (λ p. Coupled3 (suc p) f.next.values) one.place };
+        equal_second = g.equal_second;
+        equal_third = coupling_next _ _ _ (subst (λ v. SameCoupling f.next.values v) one.values f.same) g.equal_second;
         number = subst (λ w. w.group ≢ 0) same g.number;
         same_second = group_a;
         same_third = f.group_b ∙ group_a;
@@ -103,12 +107,11 @@ ends L (group x y z vs xs g r s) (x' ∷ []) a rest b e l f =
       }) tt done;
       same = tt;
     }
-ends L (group x y z vs xs g r s) (x' ∷ y' ∷ []) a rest b e l f =
+ends L (group x y z xs g r s) (x' ∷ y' ∷ []) a rest b e l f =
     let third : z ≡ a = cc in
-    let law : Coupled3 f.place f.values ≡ Coupled3 2 vs = sym f.law_a ∙ subst (λ w. w.law ≡ Coupled3 2 vs) third g.third in
-    let place : f.place ≡ 2 = cc in
-    absurd (omega (arith, f.below, place))
-ends L (group x y z vs xs g r s) (x' ∷ y' ∷ z' ∷ front) a rest b e l f =
+    let one = alike a f.place 2 f.last.values g.third.values f.last.law (subst (λ w. w.law ≡ Coupled3 2 g.third.values) third g.third.law) in
+    absurd (omega (arith, f.below, one.place))
+ends L (group x y z xs g r s) (x' ∷ y' ∷ z' ∷ front) a rest b e l f =
     let same : x ≡ x' = cc in
     let second : y ≡ y' = cc in
     let third : z ≡ z' = cc in
@@ -119,8 +122,8 @@ ends L (group x y z vs xs g r s) (x' ∷ y' ∷ z' ∷ front) a rest b e l f =
     record {
       rest = t.rest;
       few = t.few;
-      grouped = group x' y' z' vs (front ++ a ∷ b ∷ t.rest)
-          (subst (λ w. IsGroup w y' z' vs) same (subst (λ w. IsGroup x w z' vs) second (subst (λ w. IsGroup x y w vs) third g)))
+      grouped = group x' y' z' (front ++ a ∷ b ∷ t.rest)
+          (subst (λ w. IsGroup w y' z') same (subst (λ w. IsGroup x w z') second (subst (λ w. IsGroup x y w) third g)))
           (each_append (λ o. o.group ≢ x'.group) front (a ∷ b ∷ t.rest) parts.0
           (parts.1, (λ q. parts.1 (sym f.group_b ∙ q), each_weaker (λ o. o.group ≡ a.group) (λ o. o.group ≢ x'.group) (λ o k q. parts.1 (sym k ∙ q)) t.rest t.same)))
           t.grouped;
@@ -132,8 +135,9 @@ at_place b p values = record b { law = Coupled3 p values }
 
 pub next_keeps_grouping : NextKeepsGrouping
 next_keeps_grouping bs b g (uncoupled whole u) = grouped_grouping (bs ++ b ∷ []) (uncoupled_grouped bs b whole u)
-next_keeps_grouping bs b g (first values whole law number apart) =
+next_keeps_grouping bs b g (first whole place number apart) =
     let e = exact_branch b in
+    let values = place.values in
     let second = at_place e 1 values in
     let third = at_place e 2 values in
     let others : AllByRecursion (λ o. o.group ≢ b.group) (map exact_branch bs) = each_map (λ o. o.group ≢ b.group) exact_branch bs apart in
@@ -142,12 +146,23 @@ next_keeps_grouping bs b g (first values whole law number apart) =
       few = omega arith;
       grouped = subst IsGrouped (sym (mapped_push bs b (second ∷ third ∷ [])))
           (grouped_append (map exact_branch bs) (e ∷ second ∷ third ∷ []) whole
-          (group e second third values [] (record { first = law; second = refl; third = refl; number = number; same_second = refl; same_third = refl; owner_second = refl; owner_third = refl }) tt done)
+          (group e second third [] (record {
+            first = place;
+            second = record { values = values; law = refl };
+            third = record { values = values; law = refl };
+            equal_second = coupling_same values;
+            equal_third = coupling_same values;
+            number = number;
+            same_second = refl;
+            same_third = refl;
+            owner_second = refl;
+            owner_third = refl;
+          }) tt done)
           (λ n. others, (λ n. others, (λ n. others, tt))));
     }
-next_keeps_grouping bs b g (later front a place values is below law_a law_b group_b owner_b) =
+next_keeps_grouping bs b g (later front a place is below last next same group_b owner_b) =
     let e = exact_branch b in
-    let follows : Follows (exact_branch a) e = record { place = place; values = values; below = below; law_a = law_a; law_b = law_b; group_b = group_b; owner_b = owner_b } in
+    let follows : Follows (exact_branch a) e = record { place = place; below = below; last = last; next = next; same = same; group_b = group_b; owner_b = owner_b } in
     let t = ends (map exact_branch bs ++ g.lacking) g.grouped (map exact_branch front) (exact_branch a) g.lacking e
     (ap (λ z. map exact_branch z ++ g.lacking) is ∙ mapped_push front a g.lacking) g.few follows in
     record {

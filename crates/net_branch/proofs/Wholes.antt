@@ -4,7 +4,7 @@ use Rattle.std.specs.Prelude.{map, nat_lt}
 use Rattle.std.specs.List.{AllByRecursion, list_all}
 use Rattle.std.proofs.lemmas.Bool.{and_parts, ltb-true}
 use Rattle.std.proofs.lemmas.List.{append-nil, map-append, length-append}
-use Rattle.network_theory.specs.Branch.{Law as ExactLaw, Series as ExactSeries, Shunt as ExactShunt, Coupled3 as ExactCoupled3, Coupling, Branch as ExactBranch}
+use Rattle.network_theory.specs.Branch.{Law as ExactLaw, Series as ExactSeries, Shunt as ExactShunt, Coupled3 as ExactCoupled3, Branch as ExactBranch}
 use Rattle.network_theory.specs.Network.{IsGroup, IsGrouped, IsUncoupled, done, alone, group}
 use Rattle.net_branch.specs.declared.limits.TheConstants.{MAX_NODES, MAX_BRANCHES}
 use Rattle.net_branch.specs.declared.network.Tap.{Tap}
@@ -70,10 +70,10 @@ pub grouped_append : (xs ys : List ExactBranch) → IsGrouped xs → IsGrouped y
     → IsGrouped (xs ++ ys)
 grouped_append xs ys done k h = k
 grouped_append xs ys (alone b bs u g) k h = alone b (bs ++ ys) u (grouped_append bs ys g k (apart_rest b bs ys h))
-grouped_append xs ys (group a b c values bs g r s) k h =
+grouped_append xs ys (group a b c bs g r s) k h =
     let h1 = apart_rest a (b ∷ c ∷ bs) ys h in
     let h2 = apart_rest b (c ∷ bs) ys h1 in
-    group a b c values (bs ++ ys) g
+    group a b c (bs ++ ys) g
     (each_append (λ o. o.group ≢ a.group) bs ys r (apart_first a (b ∷ c ∷ bs) ys g.number h))
     (grouped_append bs ys s k (apart_rest c bs ys h2))
 
@@ -157,13 +157,13 @@ pub uncoupled_next : (network : Network) (b : Branch) → IsWholeNetwork network
 uncoupled_next network b w u = grouped_grouping (network.branches ++ b ∷ []) (uncoupled_grouped network.branches b w.exact.groups u)
 
 -- a group of its own number that comes after complete groups
-pub group_grouped : (bs : List Branch) (a b c : Branch) (values : Coupling) → IsGrouped (map exact_branch bs) → IsGroup (exact_branch a) (exact_branch b) (exact_branch c) values
+pub group_grouped : (bs : List Branch) (a b c : Branch) → IsGrouped (map exact_branch bs) → IsGroup (exact_branch a) (exact_branch b) (exact_branch c)
     → AllByRecursion (λ o. o.group ≢ a.group) bs
     → IsGrouped (map exact_branch bs ++ exact_branch a ∷ exact_branch b ∷ exact_branch c ∷ [])
-group_grouped bs a b c values g three apart =
+group_grouped bs a b c g three apart =
     let others = each_map (λ o. o.group ≢ a.group) exact_branch bs apart in
     grouped_append (map exact_branch bs) (exact_branch a ∷ exact_branch b ∷ exact_branch c ∷ []) g
-    (group (exact_branch a) (exact_branch b) (exact_branch c) values [] three tt done) (
+    (group (exact_branch a) (exact_branch b) (exact_branch c) [] three tt done) (
       λ n. others,
       (
         λ n. each_weaker _ _ (λ o k e. k (e ∙ three.same_second)) (map exact_branch bs) others,
@@ -192,23 +192,23 @@ mapped_push [] a rest = refl
 mapped_push (b ∷ bs) a rest = ap (λ z. exact_branch b ∷ z) (mapped_push bs a rest)
 
 -- the three branches of a group, of a number that no branch has, come one after another
-module _ (bs : List Branch) (a b c : Branch) (values : Coupling) (complete : IsGrouped (map exact_branch bs)) (three : IsGroup (exact_branch a) (exact_branch b) (exact_branch c) values) (apart : AllByRecursion (λ o. o.group ≢ a.group) bs) where
+module _ (bs : List Branch) (a b c : Branch) (complete : IsGrouped (map exact_branch bs)) (three : IsGroup (exact_branch a) (exact_branch b) (exact_branch c)) (apart : AllByRecursion (λ o. o.group ≢ a.group) bs) where
   pub group_first : IsGrouping (bs ++ a ∷ [])
   group_first = record {
     lacking = exact_branch b ∷ exact_branch c ∷ [];
     few = omega arith;
-    grouped = subst IsGrouped (sym (mapped_push bs a (exact_branch b ∷ exact_branch c ∷ []))) (group_grouped bs a b c values complete three apart);
+    grouped = subst IsGrouped (sym (mapped_push bs a (exact_branch b ∷ exact_branch c ∷ []))) (group_grouped bs a b c complete three apart);
   }
 
   pub group_second : IsGrouping (bs ++ a ∷ [] ++ b ∷ [])
   group_second = record {
     lacking = exact_branch c ∷ [];
     few = omega arith;
-    grouped = subst IsGrouped (sym (mapped_push (bs ++ a ∷ []) b (exact_branch c ∷ []) ∙ mapped_push bs a (exact_branch b ∷ exact_branch c ∷ []))) (group_grouped bs a b c values complete three apart);
+    grouped = subst IsGrouped (sym (mapped_push (bs ++ a ∷ []) b (exact_branch c ∷ []) ∙ mapped_push bs a (exact_branch b ∷ exact_branch c ∷ []))) (group_grouped bs a b c complete three apart);
   }
 
   pub group_third : IsGrouped (map exact_branch (bs ++ a ∷ [] ++ b ∷ [] ++ c ∷ []))
   group_third =
       subst IsGrouped
       (sym (sym (append-nil (map exact_branch (bs ++ a ∷ [] ++ b ∷ [] ++ c ∷ []))) ∙ mapped_push (bs ++ a ∷ [] ++ b ∷ []) c [] ∙ mapped_push (bs ++ a ∷ []) b (exact_branch c ∷ []) ∙ mapped_push bs a (exact_branch b ∷ exact_branch c ∷ [])))
-      (group_grouped bs a b c values complete three apart)
+      (group_grouped bs a b c complete three apart)

@@ -1,7 +1,6 @@
 // Networks worked by hand: each refusal, the limits at both sides, and live nodes.
 ghost use Rattle.std.specs.Prelude.{◌≡◌, ◌≢◌, ◌+◌, max, false, [], IfOk, OnOk};
 ghost use Rattle.std.specs.List.{AllByRecursion};
-ghost use Rattle.network_theory.specs.Branch.{Coupling};
 ghost use Rattle.network_theory.specs.Network.{IsGroup, IsUncoupled};
 ghost use Rattle.net_branch.specs.Exact.{exact_branch};
 ghost use Rattle.net_branch.specs.Refusal.{is_zero_law};
@@ -110,7 +109,7 @@ fn push_group(
     c: Branch,
 ) -> Result<(), NetFault>
     requires whole { IsWholeNetwork network.old }
-    requires three { (values : Coupling) × IsGroup (exact_branch a) (exact_branch b) (exact_branch c) values }
+    requires three { IsGroup (exact_branch a) (exact_branch b) (exact_branch c) }
     requires apart { AllByRecursion (λ o. o.group ≢ a.group) network.old.branches }
     ensures { OnOk result (IsWholeNetwork network.new) }
 {

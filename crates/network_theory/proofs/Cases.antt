@@ -19,6 +19,7 @@ use Rattle.network_theory.specs.Scanned.{IsCleared, IsPeak, micro}
 use Rattle.network_theory.specs.Laws.{IsClosed}
 use Rattle.network_theory.specs.Phases.{three_phases, phase_to_ground}
 use Rattle.network_theory.specs.Cases.{box, tie, adrift, grounded_bus, WorkedBoxes, WorkedThresholds, WorkedNetworks, WorkedCases}
+use Rattle.network_theory.proofs.Couplings.{coupling_same}
 use Rattle.network_theory.proofs.More.{up_to}
 use Rattle.network_theory.proofs.Stated.{live_is_least, one_impedance}
 use Rattle.network_theory.proofs.OneBus.{series_alone}
@@ -54,10 +55,12 @@ whole_three : (values : Coupling) → IsWhole (three_phases values)
 whole_three values = record {
   buses = omega arith;
   taps = ((omega arith, tt), ((omega arith, tt), ((omega arith, tt), tt)));
-  groups = group _ _ _ values [] (record {
-    first = refl;
-    second = refl;
-    third = refl;
+  groups = group _ _ _ [] (record {
+    first = record { values = values; law = refl };
+    second = record { values = values; law = refl };
+    third = record { values = values; law = refl };
+    equal_second = coupling_same values;
+    equal_third = coupling_same values;
     number = λ e. omega (arith, e);
     same_second = refl;
     same_third = refl;

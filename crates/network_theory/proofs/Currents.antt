@@ -88,12 +88,12 @@ module _ (network : Network) (h : Order) (I : ℕ → C) (f : Branch → C) wher
   Inside ps = (b : Branch) → Contains (flatten ps) b → Contains network.branches b
 
   -- the three laws of a group, from one that carries
-  three-laws : (o : ℕ) (a b c : Branch) (Y : ℕ → ℕ → C) (values : Coupling) (ps : List Part) → IsGroup a b c values → Carries network a → Carries network b → Carries network c → LawsFrom o (Group a b c Y ∷ ps)
-      → GroupLaws values h I o (f a) (f b) (f c)
-  three-laws o a b c Y values ps g ca cb cc' l = record {
-    first = subst (λ k. KeepsLaw (Coupled3 0 values) h I k (f a)) (add_none o) (subst (λ k. KeepsLaw k h I (o + 0) (f a)) g.first (l 0 a refl ca));
-    second = subst (λ k. KeepsLaw k h I (o + 1) (f b)) g.second (l 1 b refl cb);
-    third = subst (λ k. KeepsLaw k h I (o + 2) (f c)) g.third (l 2 c refl cc');
+  three-laws : (o : ℕ) (a b c : Branch) (Y : ℕ → ℕ → C) (ps : List Part) (g : IsGroup a b c) → Carries network a → Carries network b → Carries network c → LawsFrom o (Group a b c Y ∷ ps)
+      → GroupLaws g.first.values g.second.values g.third.values h I o (f a) (f b) (f c)
+  three-laws o a b c Y ps g ca cb cc' l = record {
+    first = subst (λ k. KeepsLaw (Coupled3 0 g.first.values) h I k (f a)) (add_none o) (subst (λ k. KeepsLaw k h I (o + 0) (f a)) g.first.law (l 0 a refl ca));
+    second = subst (λ k. KeepsLaw k h I (o + 1) (f b)) g.second.law (l 1 b refl cb);
+    third = subst (λ k. KeepsLaw k h I (o + 2) (f c)) g.third.law (l 2 c refl cc');
   }
     where
       add_none : (o : ℕ) → o + 0 ≡ o
@@ -141,17 +141,17 @@ module _ (network : Network) (h : Order) (I : ℕ → C) (f : Branch → C) wher
     is_second : b ≡ x → OneOf a b c x
     is_third : c ≡ x → OneOf a b c x
 
-  all_carry : (a b c : Branch) (Y : ℕ → ℕ → C) (values : Coupling) (ps : List Part) → Inside (Group a b c Y ∷ ps) → IsGroup a b c values → (x : Branch) → OneOf a b c x → Carries network x → AllCarry a b c
-  all_carry a b c Y values ps s g x (is_first e) k =
+  all_carry : (a b c : Branch) (Y : ℕ → ℕ → C) (ps : List Part) → Inside (Group a b c Y ∷ ps) → IsGroup a b c → (x : Branch) → OneOf a b c x → Carries network x → AllCarry a b c
+  all_carry a b c Y ps s g x (is_first e) k =
       let ka : Carries network a = subst (λ z. Carries network z) (sym e) k in
       let ma = s a (head_in a (b ∷ c ∷ flatten ps)) in
       record { first = ka; second = carries-group network a b ma g.number (sym g.same_second) ka; third = carries-group network a c ma g.number (sym g.same_third) ka }
-  all_carry a b c Y values ps s g x (is_second e) k =
+  all_carry a b c Y ps s g x (is_second e) k =
       let kb : Carries network b = subst (λ z. Carries network z) (sym e) k in
       let mb = s b (later (b ∷ c ∷ flatten ps) a b (head_in b (c ∷ flatten ps))) in
       let n : b.group ≢ 0 = λ q. g.number (sym g.same_second ∙ q) in
       record { first = carries-group network b a mb n g.same_second kb; second = kb; third = carries-group network b c mb n (g.same_second ∙ sym g.same_third) kb }
-  all_carry a b c Y values ps s g x (is_third e) k =
+  all_carry a b c Y ps s g x (is_third e) k =
       let kc : Carries network c = subst (λ z. Carries network z) (sym e) k in
       let mc = s c (later (b ∷ c ∷ flatten ps) a c (later (c ∷ flatten ps) b c (head_in c (flatten ps)))) in
       let n : c.group ≢ 0 = λ q. g.number (sym g.same_third ∙ q) in
@@ -162,19 +162,18 @@ module _ (network : Network) (h : Order) (I : ℕ → C) (f : Branch → C) wher
   of_alone b y (alone _ _ a) = a
 
   record GroupHas (a b c : Branch) (Y : ℕ → ℕ → C) : Type 0 where
-    values : Coupling
-    «is» : IsGroup a b c values
-    has : IsGroupAdmittance h values Y
+    «is» : IsGroup a b c
+    has : IsGroupAdmittance h «is».first.values «is».second.values «is».third.values Y
 
   of_group : (a b c : Branch) (Y : ℕ → ℕ → C) → HasAdmittance h (Group a b c Y) → GroupHas a b c Y
-  of_group a b c Y (group _ _ _ _ values g i) = record { values = values; «is» = g; has = i }
+  of_group a b c Y (group _ _ _ _ g i) = record { «is» = g; has = i }
 
   group-flow : (o : ℕ) (a b c : Branch) (Y : ℕ → ℕ → C) (ps : List Part) → Inside (Group a b c Y ∷ ps) → LawsFrom o (Group a b c Y ∷ ps) → HasAdmittance h (Group a b c Y) → (x : Branch) → OneOf a b c x → Carries network x
       → GroupCurrents Y I o (f a) (f b) (f c)
   group-flow o a b c Y ps s l m x w k =
       let g = of_group a b c Y m in
-      let t = all_carry a b c Y g.values ps s g.«is» x w k in
-      group-currents g.values h Y I o (f a) (f b) (f c) g.has (three-laws o a b c Y g.values ps g.«is» t.first t.second t.third l)
+      let t = all_carry a b c Y ps s g.«is» x w k in
+      group-currents _ _ _ h Y I o (f a) (f b) (f c) g.has (three-laws o a b c Y ps g.«is» t.first t.second t.third l)
 
   at_place : (o k : ℕ) (y : C) → o ≡ k → I o ≈ y → I k ≈ y
   at_place o k y e = subst (λ j. I j ≈ y) e
@@ -200,9 +199,9 @@ module _ (network : Network) (h : Order) (I : ℕ → C) (f : Branch → C) wher
   flow (Group a b c Y ∷ ps) o r s l (suc (suc (suc i))) x e k =
       at_place (o + 3 + i) (o + suc (suc (suc i))) _ (omega arith) (flow ps (o + 3) r.1 (inside-group a b c Y ps s) (laws-group o a b c Y ps l) i x e k)
 
-  group-back : (o : ℕ) (a b c : Branch) (Y : ℕ → ℕ → C) (values : Coupling) → IsGroupAdmittance h values Y → I (o + 0) ≈ by_row (Y 0 0) (Y 0 1) (Y 0 2) (f a) (f b) (f c)
-      → I (o + 1) ≈ by_row (Y 1 0) (Y 1 1) (Y 1 2) (f a) (f b) (f c) → I (o + 2) ≈ by_row (Y 2 0) (Y 2 1) (Y 2 2) (f a) (f b) (f c) → GroupLaws values h I o (f a) (f b) (f c)
-  group-back o a b c Y values m p q r = group-laws values h Y I o (f a) (f b) (f c) m (record { first = at_place (o + 0) o _ (omega arith) p; second = q; third = r })
+  group-back : (o : ℕ) (a b c : Branch) (Y : ℕ → ℕ → C) (c1 c2 c3 : Coupling) → IsGroupAdmittance h c1 c2 c3 Y → I (o + 0) ≈ by_row (Y 0 0) (Y 0 1) (Y 0 2) (f a) (f b) (f c)
+      → I (o + 1) ≈ by_row (Y 1 0) (Y 1 1) (Y 1 2) (f a) (f b) (f c) → I (o + 2) ≈ by_row (Y 2 0) (Y 2 1) (Y 2 2) (f a) (f b) (f c) → GroupLaws c1 c2 c3 h I o (f a) (f b) (f c)
+  group-back o a b c Y c1 c2 c3 m p q r = group-laws c1 c2 c3 h Y I o (f a) (f b) (f c) m (record { first = at_place (o + 0) o _ (omega arith) p; second = q; third = r })
 
   along_law : (l l' : Law) (j : ℕ) (b x : Branch) → b ≡ x → l ≡ b.law → KeepsLaw l h I j (f b) → KeepsLaw x.law h I j (f x)
   along_law l l' j b x e q k = subst (λ z. KeepsLaw z.law h I j (f z)) e (subst (λ z. KeepsLaw z h I j (f b)) q k)
@@ -218,13 +217,13 @@ module _ (network : Network) (h : Order) (I : ℕ → C) (f : Branch → C) wher
       along_place (suc o + i) (o + suc i) x.law (f x) (omega arith) (kept ps (suc o) r.1 (λ j. at_place (o + suc j) (suc o + j) _ (omega arith) (m (suc j))) i x e k)
   kept (Group a b c Y ∷ ps) o r m zero x e k =
       let g = of_group a b c Y (r.0 x (subst (λ z. Contains (a ∷ b ∷ c ∷ []) z) (some e) (in_first a b c)) k) in
-      along_law _ x.law (o + 0) a x (some e) (sym g.«is».first) (along_place o (o + 0) (Coupled3 0 g.values) (f a) (omega arith) (group-back o a b c Y g.values g.has (m 0) (m 1) (m 2)).first)
+      along_law _ x.law (o + 0) a x (some e) (sym g.«is».first.law) (along_place o (o + 0) (Coupled3 0 g.«is».first.values) (f a) (omega arith) (group-back o a b c Y _ _ _ g.has (m 0) (m 1) (m 2)).first)
   kept (Group a b c Y ∷ ps) o r m (suc zero) x e k =
       let g = of_group a b c Y (r.0 x (subst (λ z. Contains (a ∷ b ∷ c ∷ []) z) (some e) (in_second a b c)) k) in
-      along_law _ x.law (o + 1) b x (some e) (sym g.«is».second) (group-back o a b c Y g.values g.has (m 0) (m 1) (m 2)).second
+      along_law _ x.law (o + 1) b x (some e) (sym g.«is».second.law) (group-back o a b c Y _ _ _ g.has (m 0) (m 1) (m 2)).second
   kept (Group a b c Y ∷ ps) o r m (suc (suc zero)) x e k =
       let g = of_group a b c Y (r.0 x (subst (λ z. Contains (a ∷ b ∷ c ∷ []) z) (some e) (in_third a b c)) k) in
-      along_law _ x.law (o + 2) c x (some e) (sym g.«is».third) (group-back o a b c Y g.values g.has (m 0) (m 1) (m 2)).third
+      along_law _ x.law (o + 2) c x (some e) (sym g.«is».third.law) (group-back o a b c Y _ _ _ g.has (m 0) (m 1) (m 2)).third
   kept (Group a b c Y ∷ ps) o r m (suc (suc (suc i))) x e k =
       along_place (o + 3 + i) (o + suc (suc (suc i))) x.law (f x) (omega arith)
       (kept ps (o + 3) r.1 (λ j. at_place (o + suc (suc (suc j))) (o + 3 + j) _ (omega arith) (m (suc (suc (suc j))))) i x e k)

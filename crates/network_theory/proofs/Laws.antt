@@ -60,10 +60,10 @@ pub record GroupCurrents (Y : ℕ → ℕ → C) (I : ℕ → C) (o : ℕ) (d1 d
   pub third : I (o + 2) ≈ by_row (Y 2 0) (Y 2 1) (Y 2 2) d1 d2 d3
 
 -- the three laws of a group whose first branch is at place o
-pub record GroupLaws (c : Coupling) (h : Order) (I : ℕ → C) (o : ℕ) (d1 d2 d3 : C) : Type 0 where
-  pub first : KeepsLaw (Coupled3 0 c) h I o d1
-  pub second : KeepsLaw (Coupled3 1 c) h I (o + 1) d2
-  pub third : KeepsLaw (Coupled3 2 c) h I (o + 2) d3
+pub record GroupLaws (c1 c2 c3 : Coupling) (h : Order) (I : ℕ → C) (o : ℕ) (d1 d2 d3 : C) : Type 0 where
+  pub first : KeepsLaw (Coupled3 0 c1) h I o d1
+  pub second : KeepsLaw (Coupled3 1 c2) h I (o + 1) d2
+  pub third : KeepsLaw (Coupled3 2 c3) h I (o + 2) d3
 
 -- the three laws with the group's currents by their places
 back_one : (I : ℕ → C) (o : ℕ) → (I (o + 1 - 1) ≡ I o) × (I (o + 1 - 1 + 1) ≡ I (o + 1)) × (I (o + 1 - 1 + 2) ≡ I (o + 2))
@@ -83,27 +83,27 @@ row-along : (row : List C) {u v w u' v' w' : C} → u ≡ u' → v ≡ v' → w 
 row-along row p q r = λ i. row_value row (p i) (q i) (r i)
 
 -- Z·I = d, from the laws, and back
-pub record GroupRows (c : Coupling) (h : Order) (u v w d1 d2 d3 : C) : Type 0 where
-  pub first : row_value (group_row c h 0) u v w ≈ d1
-  pub second : row_value (group_row c h 1) u v w ≈ d2
-  pub third : row_value (group_row c h 2) u v w ≈ d3
+pub record GroupRows (c1 c2 c3 : Coupling) (h : Order) (u v w d1 d2 d3 : C) : Type 0 where
+  pub first : row_value (group_row c1 h 0) u v w ≈ d1
+  pub second : row_value (group_row c2 h 1) u v w ≈ d2
+  pub third : row_value (group_row c3 h 2) u v w ≈ d3
 
-pub laws-rows : (c : Coupling) (h : Order) (I : ℕ → C) (o : ℕ) (d1 d2 d3 : C) → GroupLaws c h I o d1 d2 d3 → GroupRows c h (I o) (I (o + 1)) (I (o + 2)) d1 d2 d3
-laws-rows c h I o d1 d2 d3 l =
+pub laws-rows : (c1 c2 c3 : Coupling) (h : Order) (I : ℕ → C) (o : ℕ) (d1 d2 d3 : C) → GroupLaws c1 c2 c3 h I o d1 d2 d3 → GroupRows c1 c2 c3 h (I o) (I (o + 1)) (I (o + 2)) d1 d2 d3
+laws-rows c1 c2 c3 h I o d1 d2 d3 l =
     let p = back_none I o in let q = back_one I o in let r = back_two I o in
     record {
-      first = subst (λ z. z ≈ d1) (row-along (group_row c h 0) p.0 p.1 p.2) l.first;
-      second = subst (λ z. z ≈ d2) (row-along (group_row c h 1) q.0 q.1 q.2) l.second;
-      third = subst (λ z. z ≈ d3) (row-along (group_row c h 2) r.0 r.1 r.2) l.third;
+      first = subst (λ z. z ≈ d1) (row-along (group_row c1 h 0) p.0 p.1 p.2) l.first;
+      second = subst (λ z. z ≈ d2) (row-along (group_row c2 h 1) q.0 q.1 q.2) l.second;
+      third = subst (λ z. z ≈ d3) (row-along (group_row c3 h 2) r.0 r.1 r.2) l.third;
     }
 
-pub rows-laws : (c : Coupling) (h : Order) (I : ℕ → C) (o : ℕ) (d1 d2 d3 : C) → GroupRows c h (I o) (I (o + 1)) (I (o + 2)) d1 d2 d3 → GroupLaws c h I o d1 d2 d3
-rows-laws c h I o d1 d2 d3 l =
+pub rows-laws : (c1 c2 c3 : Coupling) (h : Order) (I : ℕ → C) (o : ℕ) (d1 d2 d3 : C) → GroupRows c1 c2 c3 h (I o) (I (o + 1)) (I (o + 2)) d1 d2 d3 → GroupLaws c1 c2 c3 h I o d1 d2 d3
+rows-laws c1 c2 c3 h I o d1 d2 d3 l =
     let p = back_none I o in let q = back_one I o in let r = back_two I o in
     record {
-      first = subst (λ z. z ≈ d1) (sym (row-along (group_row c h 0) p.0 p.1 p.2)) l.first;
-      second = subst (λ z. z ≈ d2) (sym (row-along (group_row c h 1) q.0 q.1 q.2)) l.second;
-      third = subst (λ z. z ≈ d3) (sym (row-along (group_row c h 2) r.0 r.1 r.2)) l.third;
+      first = subst (λ z. z ≈ d1) (sym (row-along (group_row c1 h 0) p.0 p.1 p.2)) l.first;
+      second = subst (λ z. z ≈ d2) (sym (row-along (group_row c2 h 1) q.0 q.1 q.2)) l.second;
+      third = subst (λ z. z ≈ d3) (sym (row-along (group_row c3 h 2) r.0 r.1 r.2)) l.third;
     }
 
 unit_first : (u v w : C) → by_row unit nought nought u v w ≈ u
@@ -116,9 +116,9 @@ unit_third : (u v w : C) → by_row nought nought unit u v w ≈ w
 unit_third u v w = ring R (u ∷ v ∷ w ∷ []) (search reads depth 40 fits 4000) none_left
 
 -- the currents of the admittances keep the laws
-pub given-rows : (c : Coupling) (h : Order) (Y : ℕ → ℕ → C) (d1 d2 d3 : C) → IsGroupAdmittance h c Y
-    → GroupRows c h (by_row (Y 0 0) (Y 0 1) (Y 0 2) d1 d2 d3) (by_row (Y 1 0) (Y 1 1) (Y 1 2) d1 d2 d3) (by_row (Y 2 0) (Y 2 1) (Y 2 2) d1 d2 d3) d1 d2 d3
-given-rows c h Y d1 d2 d3 a = record {
+pub given-rows : (c1 c2 c3 : Coupling) (h : Order) (Y : ℕ → ℕ → C) (d1 d2 d3 : C) → IsGroupAdmittance h c1 c2 c3 Y
+    → GroupRows c1 c2 c3 h (by_row (Y 0 0) (Y 0 1) (Y 0 2) d1 d2 d3) (by_row (Y 1 0) (Y 1 1) (Y 1 2) d1 d2 d3) (by_row (Y 2 0) (Y 2 1) (Y 2 2) d1 d2 d3) d1 d2 d3
+given-rows c1 c2 c3 h Y d1 d2 d3 a = record {
   first = next (given_row _ _ _ Y d1 d2 d3 unit nought nought a.first.0 a.second.0 a.third.0) (unit_first d1 d2 d3);
   second = next (given_row _ _ _ Y d1 d2 d3 nought unit nought a.first.1.0 a.second.1.0 a.third.1.0) (unit_second d1 d2 d3);
   third = next (given_row _ _ _ Y d1 d2 d3 nought nought unit a.first.1.1.0 a.second.1.1.0 a.third.1.1.0) (unit_third d1 d2 d3);
@@ -133,26 +133,26 @@ zero_difference : (u v : C) → u ⊕ minus v ≈ nought → u ≈ v
 zero_difference u v h = linear R (u ∷ v ∷ []) (weigh R unit h) (search reads depth 40 fits 4000) none_left
 
 -- two triples of currents with the same drops are one
-pub rows-only : (c : Coupling) (h : Order) (Y : ℕ → ℕ → C) (u v w u' v' w' d1 d2 d3 : C) → IsGroupAdmittance h c Y → GroupRows c h u v w d1 d2 d3 → GroupRows c h u' v' w' d1 d2 d3
+pub rows-only : (c1 c2 c3 : Coupling) (h : Order) (Y : ℕ → ℕ → C) (u v w u' v' w' d1 d2 d3 : C) → IsGroupAdmittance h c1 c2 c3 Y → GroupRows c1 c2 c3 h u v w d1 d2 d3 → GroupRows c1 c2 c3 h u' v' w' d1 d2 d3
     → (u ≈ u') × (v ≈ v') × (w ≈ w')
-rows-only c h Y u v w u' v' w' d1 d2 d3 a p q =
+rows-only c1 c2 c3 h Y u v w u' v' w' d1 d2 d3 a p q =
     let x : List C = (u ⊕ minus u') ∷ (v ⊕ minus v') ∷ (w ⊕ minus w') ∷ [] in
     let z = a.only.only x refl
     (row_less _ _ _ u v w u' v' w' d1 p.first q.first, (row_less _ _ _ u v w u' v' w' d2 p.second q.second, (row_less _ _ _ u v w u' v' w' d3 p.third q.third, tt))) in
     (zero_difference u u' z.0, zero_difference v v' z.1.0, zero_difference w w' z.1.1.0)
 
-pub group-currents : (c : Coupling) (h : Order) (Y : ℕ → ℕ → C) (I : ℕ → C) (o : ℕ) (d1 d2 d3 : C) → IsGroupAdmittance h c Y → GroupLaws c h I o d1 d2 d3 → GroupCurrents Y I o d1 d2 d3
-group-currents c h Y I o d1 d2 d3 a l =
-    let t = rows-only c h Y _ _ _ _ _ _ d1 d2 d3 a (laws-rows c h I o d1 d2 d3 l) (given-rows c h Y d1 d2 d3 a) in
+pub group-currents : (c1 c2 c3 : Coupling) (h : Order) (Y : ℕ → ℕ → C) (I : ℕ → C) (o : ℕ) (d1 d2 d3 : C) → IsGroupAdmittance h c1 c2 c3 Y → GroupLaws c1 c2 c3 h I o d1 d2 d3 → GroupCurrents Y I o d1 d2 d3
+group-currents c1 c2 c3 h Y I o d1 d2 d3 a l =
+    let t = rows-only c1 c2 c3 h Y _ _ _ _ _ _ d1 d2 d3 a (laws-rows c1 c2 c3 h I o d1 d2 d3 l) (given-rows c1 c2 c3 h Y d1 d2 d3 a) in
     record { first = t.0; second = t.1; third = t.2 }
 
-pub group-laws : (c : Coupling) (h : Order) (Y : ℕ → ℕ → C) (I : ℕ → C) (o : ℕ) (d1 d2 d3 : C) → IsGroupAdmittance h c Y → GroupCurrents Y I o d1 d2 d3 → GroupLaws c h I o d1 d2 d3
-group-laws c h Y I o d1 d2 d3 a g =
-    let k = given-rows c h Y d1 d2 d3 a in
-    rows-laws c h I o d1 d2 d3 (record {
-      first = next (row-near (group_row c h 0) g.first g.second g.third) k.first;
-      second = next (row-near (group_row c h 1) g.first g.second g.third) k.second;
-      third = next (row-near (group_row c h 2) g.first g.second g.third) k.third;
+pub group-laws : (c1 c2 c3 : Coupling) (h : Order) (Y : ℕ → ℕ → C) (I : ℕ → C) (o : ℕ) (d1 d2 d3 : C) → IsGroupAdmittance h c1 c2 c3 Y → GroupCurrents Y I o d1 d2 d3 → GroupLaws c1 c2 c3 h I o d1 d2 d3
+group-laws c1 c2 c3 h Y I o d1 d2 d3 a g =
+    let k = given-rows c1 c2 c3 h Y d1 d2 d3 a in
+    rows-laws c1 c2 c3 h I o d1 d2 d3 (record {
+      first = next (row-near (group_row c1 h 0) g.first g.second g.third) k.first;
+      second = next (row-near (group_row c2 h 1) g.first g.second g.third) k.second;
+      third = next (row-near (group_row c3 h 2) g.first g.second g.third) k.third;
     })
   where
     row-near : (row : List C) {u v w u' v' w' : C} → u ≈ u' → v ≈ v' → w ≈ w' → row_value row u v w ≈ row_value row u' v' w'

@@ -14,7 +14,7 @@ use Rattle.network_theory.specs.Network.{Network}
 use Rattle.network_theory.specs.Live.{Live, grounded, joined, Carries}
 use Rattle.network_theory.specs.Admittance.{Part, Alone, HasAdmittance, alone, IsAdmittance, branches_of, flatten}
 use Rattle.network_theory.specs.Nodal.{IsNodalSystem, nodal_entry}
-use Rattle.network_theory.specs.Scanned.{IsReducedTo}
+use Rattle.network_theory.specs.Reduced.{IsReducedTo}
 use Rattle.network_theory.specs.OneNode.{ground_tap, IsOneNode, sum_of}
 use Rattle.network_theory.proofs.Numbers.{R}
 open complex_numbers use {◌≈◌, nought, unit, ◌⊕◌, ◌⊗◌}

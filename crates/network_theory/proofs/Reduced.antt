@@ -10,7 +10,8 @@ use Rattle.network_theory.specs.Network.{Network}
 use Rattle.network_theory.specs.DrivingPoint.{IsDrivingPoint}
 use Rattle.network_theory.specs.Admittance.{Part}
 use Rattle.network_theory.specs.Nodal.{IsNodalSystem, IsLast}
-use Rattle.network_theory.specs.Scanned.{IsReducedTo, IsClearedAt, IsPeakAt}
+use Rattle.network_theory.specs.Reduced.{IsReducedTo}
+use Rattle.network_theory.specs.Scanned.{IsClearedAt, IsPeakAt}
 use Rattle.network_theory.proofs.Driven as B
 use Rattle.network_theory.proofs.Sizes.{within_by, above_by, apart_by}
 open complex_numbers use {◌≈◌, nought, unit, ◌⊗◌, inverse}

@@ -4,7 +4,7 @@ use Rattle.std.specs.Prelude.{Contains}
 use Rattle.std.specs.List.{AllByRecursion}
 use Rattle.exact_algebra.specs.Complex.{Complex, complex_numbers}
 use Rattle.linear_systems.specs.Linear.{Solves}
-use Rattle.network_theory.specs.Branch.{Branch, Law, Series, Shunt, Coupled3, Coupling}
+use Rattle.network_theory.specs.Branch.{Branch, Law, Series, Shunt, Coupled3}
 use Rattle.network_theory.specs.Network.{IsGroup, IsUncoupled}
 use Rattle.network_theory.specs.Live.{HasLiveNode, Carries, itself, by_group}
 use Rattle.network_theory.specs.Admittance.{Part, branches_of, flatten, HasAdmittance, IsSplit, end, one, three, EachLivePart, group_rows}
@@ -61,11 +61,11 @@ later_alone b z bs (p ∷ ps) h = (
   later_alone b z bs ps h.1,
 )
 
-in_group : (a b c : Branch) (values : Coupling) → IsGroup a b c values → (o : Branch) → IsIn o (a ∷ b ∷ c ∷ []) → o.group ≡ a.group
-in_group a b c values g o (inl e) = ap (λ k. k.group) e
-in_group a b c values g o (inr (inl e)) = ap (λ k. k.group) e ∙ g.same_second
-in_group a b c values g o (inr (inr (inl e))) = ap (λ k. k.group) e ∙ g.same_third
-in_group a b c values g o (inr (inr (inr i))) = absurd i
+in_group : (a b c : Branch) → IsGroup a b c → (o : Branch) → IsIn o (a ∷ b ∷ c ∷ []) → o.group ≡ a.group
+in_group a b c g o (inl e) = ap (λ k. k.group) e
+in_group a b c g o (inr (inl e)) = ap (λ k. k.group) e ∙ g.same_second
+in_group a b c g o (inr (inr (inl e))) = ap (λ k. k.group) e ∙ g.same_third
+in_group a b c g o (inr (inr (inr i))) = absurd i
 
 -- a branch of three, or of the rest
 sides : (a b c o : Branch) (bs : List Branch) → IsIn o (a ∷ b ∷ c ∷ bs) → IsIn o (a ∷ b ∷ c ∷ []) ⊎ IsIn o bs
@@ -80,17 +80,17 @@ widen a b c o bs (inr (inl e)) = inr (inl e)
 widen a b c o bs (inr (inr (inl e))) = inr (inr (inl e))
 widen a b c o bs (inr (inr (inr i))) = absurd i
 
-later_group : (a b c : Branch) (values : Coupling) → IsGroup a b c values → (bs : List Branch) → AllByRecursion (λ o. o.group ≢ a.group) bs → (ps : List Part) → AllByRecursion (Together bs) ps → AllByRecursion (Together (a ∷ b ∷ c ∷ bs)) ps
-later_group a b c values g bs r [] h = tt
-later_group a b c values g bs r (p ∷ ps) h = (
+later_group : (a b c : Branch) → IsGroup a b c → (bs : List Branch) → AllByRecursion (λ o. o.group ≢ a.group) bs → (ps : List Part) → AllByRecursion (Together bs) ps → AllByRecursion (Together (a ∷ b ∷ c ∷ bs)) ps
+later_group a b c g bs r [] h = tt
+later_group a b c g bs r (p ∷ ps) h = (
   record {
     inside = λ d i. inr (inr (inr (h.0.inside d i)));
     whole = λ d o i j n e. elim (sides a b c o bs j) [
-      | inl k ↦ absurd (apart_in a.group bs r d (h.0.inside d i) (sym e ∙ in_group a b c values g o k))
+      | inl k ↦ absurd (apart_in a.group bs r d (h.0.inside d i) (sym e ∙ in_group a b c g o k))
       | inr k ↦ h.0.whole d o i k n e
     ];
   },
-  later_group a b c values g bs r ps h.1,
+  later_group a b c g bs r ps h.1,
 )
 
 together : (bs : List Branch) (ps : List Part) → IsSplit bs ps → AllByRecursion (Together bs) ps
@@ -103,21 +103,21 @@ together bs ps (one b y bs' ps' u s) =
       },
       later_alone b z bs' ps' (together bs' ps' s),
     )
-together bs ps (three a b c values Y bs' ps' g r s) = (
+together bs ps (three a b c Y bs' ps' g r s) = (
   record {
     inside = λ d i. widen a b c d bs' i;
     whole = λ d o i j n e. elim (sides a b c o bs' j) [
       | inl k ↦ k
-      | inr k ↦ absurd (apart_in a.group bs' r o k (e ∙ in_group a b c values g d i))
+      | inr k ↦ absurd (apart_in a.group bs' r o k (e ∙ in_group a b c g d i))
     ];
   },
-  later_group a b c values g bs' r ps' (together bs' ps' s),
+  later_group a b c g bs' r ps' (together bs' ps' s),
 )
 
 split_all : (bs : List Branch) (ps : List Part) → IsSplit bs ps → bs ≡ flatten ps
 split_all bs ps end = refl
 split_all bs ps (one b y bs' ps' u s) = ap (λ z. b ∷ z) (split_all bs' ps' s)
-split_all bs ps (three a b c values Y bs' ps' g r s) = ap (λ z. a ∷ b ∷ c ∷ z) (split_all bs' ps' s)
+split_all bs ps (three a b c Y bs' ps' g r s) = ap (λ z. a ∷ b ∷ c ∷ z) (split_all bs' ps' s)
 
 pub split_admittances : SplitAdmittances
 split_admittances network h parts s given = record {
@@ -142,9 +142,9 @@ three_list (a ∷ b ∷ c ∷ []) l = refl
 three_list (a ∷ b ∷ c ∷ d ∷ x) l = absurd (omega arith)
 
 pub group_admittance : GroupAdmittance
-group_admittance h c o1 o2 o3 = record {
-  first = subst (λ x. Solves complex_numbers (group_rows c h) x (unit ∷ nought ∷ nought ∷ [])) (three_list o1.solution o1.count) o1.solves;
-  second = subst (λ x. Solves complex_numbers (group_rows c h) x (nought ∷ unit ∷ nought ∷ [])) (three_list o2.solution o2.count) o2.solves;
-  third = subst (λ x. Solves complex_numbers (group_rows c h) x (nought ∷ nought ∷ unit ∷ [])) (three_list o3.solution o3.count) o3.solves;
-  only = injective_from_one 3 (group_rows c h) (unit ∷ nought ∷ nought ∷ []) o1;
+group_admittance h a b c o1 o2 o3 = record {
+  first = subst (λ x. Solves complex_numbers (group_rows a b c h) x (unit ∷ nought ∷ nought ∷ [])) (three_list o1.solution o1.count) o1.solves;
+  second = subst (λ x. Solves complex_numbers (group_rows a b c h) x (nought ∷ unit ∷ nought ∷ [])) (three_list o2.solution o2.count) o2.solves;
+  third = subst (λ x. Solves complex_numbers (group_rows a b c h) x (nought ∷ nought ∷ unit ∷ [])) (three_list o3.solution o3.count) o3.solves;
+  only = injective_from_one 3 (group_rows a b c h) (unit ∷ nought ∷ nought ∷ []) o1;
 }

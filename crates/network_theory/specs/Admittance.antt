@@ -32,21 +32,21 @@ IsAdmittance h (Series r k m x xc) y = series_impedance r k m x xc h ⊗ y ≈ u
 IsAdmittance h (Shunt b) y = y ≈ shunt_admittance b h
 IsAdmittance h (Coupled3 place c) y = ⊥
 
--- the rows of a group's Z
-abbrev pub group_rows : Coupling → Order → List (List Complex)
-group_rows c h = group_row c h 0 ∷ group_row c h 1 ∷ group_row c h 2 ∷ []
+-- the rows of a group's Z, each by the values of its branch
+abbrev pub group_rows : Coupling → Coupling → Coupling → Order → List (List Complex)
+group_rows a b c h = group_row a h 0 ∷ group_row b h 1 ∷ group_row c h 2 ∷ []
 
 -- Y inverts a group's Z: each column of Y solves Z for a unit right side, and no other list does
-pub record IsGroupAdmittance (h : Order) (c : Coupling) (Y : ℕ → ℕ → Complex) : Type 0 where
-  pub first : Solves complex_numbers (group_rows c h) (Y 0 0 ∷ Y 1 0 ∷ Y 2 0 ∷ []) (unit ∷ nought ∷ nought ∷ [])
-  pub second : Solves complex_numbers (group_rows c h) (Y 0 1 ∷ Y 1 1 ∷ Y 2 1 ∷ []) (nought ∷ unit ∷ nought ∷ [])
-  pub third : Solves complex_numbers (group_rows c h) (Y 0 2 ∷ Y 1 2 ∷ Y 2 2 ∷ []) (nought ∷ nought ∷ unit ∷ [])
-  pub only : IsInjective complex_numbers 3 (group_rows c h)
+pub record IsGroupAdmittance (h : Order) (a b c : Coupling) (Y : ℕ → ℕ → Complex) : Type 0 where
+  pub first : Solves complex_numbers (group_rows a b c h) (Y 0 0 ∷ Y 1 0 ∷ Y 2 0 ∷ []) (unit ∷ nought ∷ nought ∷ [])
+  pub second : Solves complex_numbers (group_rows a b c h) (Y 0 1 ∷ Y 1 1 ∷ Y 2 1 ∷ []) (nought ∷ unit ∷ nought ∷ [])
+  pub third : Solves complex_numbers (group_rows a b c h) (Y 0 2 ∷ Y 1 2 ∷ Y 2 2 ∷ []) (nought ∷ nought ∷ unit ∷ [])
+  pub only : IsInjective complex_numbers 3 (group_rows a b c h)
 
 -- the numbers of a part are its admittances at order h
 pub data HasAdmittance (h : Order) : Part → Type 0 where
   alone : (b : Branch) (y : Complex) → IsAdmittance h b.law y → HasAdmittance h (Alone b y)
-  group : (a b c : Branch) (Y : ℕ → ℕ → Complex) (values : Coupling) → IsGroup a b c values → IsGroupAdmittance h values Y → HasAdmittance h (Group a b c Y)
+  group : (a b c : Branch) (Y : ℕ → ℕ → Complex) (g : IsGroup a b c) → IsGroupAdmittance h g.first.values g.second.values g.third.values Y → HasAdmittance h (Group a b c Y)
 
 -- the parts are the network's branches, and each that carries a current has its admittances at order h
 pub record HasAdmittances (network : Network) (h : Order) (parts : List Part) : Type 0 where
@@ -57,7 +57,7 @@ pub record HasAdmittances (network : Network) (h : Order) (parts : List Part) : 
 pub data IsSplit : List Branch → List Part → Type 0 where
   end : IsSplit [] []
   one : (b : Branch) (y : Complex) (bs : List Branch) (ps : List Part) → IsUncoupled b → IsSplit bs ps → IsSplit (b ∷ bs) (Alone b y ∷ ps)
-  three : (a b c : Branch) (values : Coupling) (Y : ℕ → ℕ → Complex) (bs : List Branch) (ps : List Part) → IsGroup a b c values → AllByRecursion (λ o. o.group ≢ a.group) bs → IsSplit bs ps → IsSplit (a ∷ b ∷ c ∷ bs) (Group a b c Y ∷ ps)
+  three : (a b c : Branch) (Y : ℕ → ℕ → Complex) (bs : List Branch) (ps : List Part) → IsGroup a b c → AllByRecursion (λ o. o.group ≢ a.group) bs → IsSplit bs ps → IsSplit (a ∷ b ∷ c ∷ bs) (Group a b c Y ∷ ps)
 
 -- each part with a live node has its admittances at order h
 abbrev pub EachLivePart : Network → Order → List Part → Type 0

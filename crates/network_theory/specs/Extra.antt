@@ -6,7 +6,7 @@ use Rattle.network_theory.specs.Order.{Order}
 use Rattle.network_theory.specs.Branch.{Shunt, Branch}
 use Rattle.network_theory.specs.Network.{Network}
 use Rattle.network_theory.specs.Impedance.{shunt_admittance}
-use Rattle.network_theory.specs.Scanned.{IsReducedTo}
+use Rattle.network_theory.specs.Reduced.{IsReducedTo}
 
 -- a Shunt of susceptance e from node k to ground
 abbrev pub shunt_at : ℕ → Ratio → Branch

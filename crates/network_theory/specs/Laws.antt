@@ -15,7 +15,8 @@ use Rattle.network_theory.specs.Threshold.{Threshold, per_unit, IsWithin}
 use Rattle.network_theory.specs.Admittance.{Part, branches_of, IsSplit, EachLivePart, HasAdmittances, IsGroupAdmittance, group_rows}
 use Rattle.network_theory.specs.Current.{current_of}
 use Rattle.network_theory.specs.Nodal.{IsNodalSystem, part_entry}
-use Rattle.network_theory.specs.Scanned.{IsReducedTo, IsClearedAt, IsPeakAt}
+use Rattle.network_theory.specs.Reduced.{IsReducedTo}
+use Rattle.network_theory.specs.Scanned.{IsClearedAt, IsPeakAt}
 open complex_numbers use {◌≈◌, nought, unit, ◌⊗◌}
 
 -- a set of nodes that has the node of each one-tap branch and, with one node of a branch, all its nodes
@@ -77,11 +78,11 @@ SplitAdmittances = (network : Network) (h : Order) (parts : List Part) → IsSpl
 
 -- the three solutions of a group's Z for the unit right sides, as columns, are its admittances
 abbrev pub GroupAdmittance : Type 0
-GroupAdmittance = (h : Order) (c : Coupling)
-    (first : HasOneSolution complex_numbers 3 (group_rows c h) (unit ∷ nought ∷ nought ∷ []))
-    (second : HasOneSolution complex_numbers 3 (group_rows c h) (nought ∷ unit ∷ nought ∷ []))
-    (third : HasOneSolution complex_numbers 3 (group_rows c h) (nought ∷ nought ∷ unit ∷ []))
-    → IsGroupAdmittance h c (λ p q. get_or (get_or (first.solution ∷ second.solution ∷ third.solution ∷ []) q []) p nought)
+GroupAdmittance = (h : Order) (a b c : Coupling)
+    (first : HasOneSolution complex_numbers 3 (group_rows a b c h) (unit ∷ nought ∷ nought ∷ []))
+    (second : HasOneSolution complex_numbers 3 (group_rows a b c h) (nought ∷ unit ∷ nought ∷ []))
+    (third : HasOneSolution complex_numbers 3 (group_rows a b c h) (nought ∷ nought ∷ unit ∷ []))
+    → IsGroupAdmittance h a b c (λ p q. get_or (get_or (first.solution ∷ second.solution ∷ third.solution ∷ []) q []) p nought)
 
 -- the currents of an exact state are those of the admittances at its drops
 abbrev pub StateCurrents : Type 0

@@ -12,6 +12,7 @@ pub mod Between
 pub mod Admittance
 pub mod Current
 pub mod Nodal
+pub mod Reduced
 pub mod Scanned
 pub mod OneNode
 pub mod OneBus

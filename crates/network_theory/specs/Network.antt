@@ -1,7 +1,7 @@
 -- Networks.
 use Rattle.std.specs.Prelude.{◌≡◌, ◌≢◌, ℕ, ◌≤◌, ◌<◌, List, [], ◌∷◌}
 use Rattle.std.specs.List.{AllByRecursion}
-use Rattle.network_theory.specs.Branch.{Branch, Series, Shunt, Coupled3, Coupling}
+use Rattle.network_theory.specs.Branch.{Branch, Series, Shunt, Coupled3, Coupling, SameCoupling}
 
 -- the number of bus nodes, which come first, the number of all nodes, and the branches
 pub record Network : Type 0 where
@@ -13,11 +13,18 @@ pub record Network : Type 0 where
 abbrev pub IsUncoupled : Branch → Type 0
 IsUncoupled b = elim b.law [ Series r k m x xc ↦ b.group ≡ 0 | Shunt y ↦ b.group ≡ 0 | Coupled3 place c ↦ ⊥ ]
 
--- three branches of one group other than 0 and of one owner, in their places, with the same values
-pub record IsGroup (a b c : Branch) (values : Coupling) : Type 0 where
-  pub first : a.law ≡ Coupled3 0 values
-  pub second : b.law ≡ Coupled3 1 values
-  pub third : c.law ≡ Coupled3 2 values
+-- a branch at a place of a group, with its own values
+pub record HasPlace (b : Branch) (place : ℕ) : Type 0 where
+  pub values : Coupling
+  pub law : b.law ≡ Coupled3 place values
+
+-- three branches of one group other than 0 and of one owner, in their places, with equal values
+pub record IsGroup (a b c : Branch) : Type 0 where
+  pub first : HasPlace a 0
+  pub second : HasPlace b 1
+  pub third : HasPlace c 2
+  pub equal_second : SameCoupling second.values first.values
+  pub equal_third : SameCoupling third.values first.values
   pub number : a.group ≢ 0
   pub same_second : b.group ≡ a.group
   pub same_third : c.group ≡ a.group
@@ -28,7 +35,7 @@ pub record IsGroup (a b c : Branch) (values : Coupling) : Type 0 where
 pub data IsGrouped : List Branch → Type 0 where
   done : IsGrouped []
   alone : (b : Branch) (bs : List Branch) → IsUncoupled b → IsGrouped bs → IsGrouped (b ∷ bs)
-  group : (a b c : Branch) (values : Coupling) (bs : List Branch) → IsGroup a b c values → AllByRecursion (λ o. o.group ≢ a.group) bs → IsGrouped bs → IsGrouped (a ∷ b ∷ c ∷ bs)
+  group : (a b c : Branch) (bs : List Branch) → IsGroup a b c → AllByRecursion (λ o. o.group ≢ a.group) bs → IsGrouped bs → IsGrouped (a ∷ b ∷ c ∷ bs)
 
 -- at most as many bus nodes as nodes, each tap's node is one of the nodes, and the branches are uncoupled or stand in complete groups; its size has no limit here
 pub record IsWhole (network : Network) : Type 0 where

@@ -7,7 +7,7 @@ use Rattle.network_theory.specs.Order.{Order}
 use Rattle.network_theory.specs.Branch.{Tap, Branch}
 use Rattle.network_theory.specs.Network.{Network}
 use Rattle.network_theory.specs.Admittance.{IsAdmittance}
-use Rattle.network_theory.specs.Scanned.{IsReducedTo}
+use Rattle.network_theory.specs.Reduced.{IsReducedTo}
 open complex_numbers use {nought, ◌⊕◌}
 
 -- the tap of a branch from node 0 to ground

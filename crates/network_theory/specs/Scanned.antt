@@ -1,15 +1,12 @@
 -- What a scan finds out at an order.
-use Rattle.std.specs.Prelude.{ℕ, pos, ◌^◌, List}
+use Rattle.std.specs.Prelude.{ℕ, pos, ◌^◌}
 use Rattle.exact_algebra.specs.Ratio.{Ratio, over, times, ◌≼◌}
-use Rattle.exact_algebra.specs.Complex.{square_size, Complex, complex_numbers}
-use Rattle.linear_systems.specs.Linear.{IsComplement}
+use Rattle.exact_algebra.specs.Complex.{Complex, square_size}
 use Rattle.network_theory.specs.Order.{Order, IsOrder}
 use Rattle.network_theory.specs.Box.{Box, LiesIn}
 use Rattle.network_theory.specs.Network.{Network}
 use Rattle.network_theory.specs.DrivingPoint.{IsDrivingPoint, in_ohms}
 use Rattle.network_theory.specs.Threshold.{Threshold, per_unit, IsWithin, IsAbove}
-use Rattle.network_theory.specs.Admittance.{Part}
-use Rattle.network_theory.specs.Nodal.{IsNodalSystem, IsLast}
 
 -- the driving-point impedance of node k exists and is within the threshold T per unit
 pub record IsClearedAt (network : Network) (h : Order) (k : ℕ) (T : Ratio) : Type 0 where
@@ -37,13 +34,3 @@ pub record IsPeak (network : Network) (k : ℕ) (threshold : Threshold) (kv mva 
   pub inside : LiesIn (micro at) box
   pub there : IsPeakAt network (micro at) k (per_unit threshold kv mva (micro at))
   pub ohms : times (over (pos micro_ohms) (10 ^ 6)) (over (pos micro_ohms) (10 ^ 6)) ≼ square_size (in_ohms kv mva there.Z)
-
--- the nodal matrix with node k last has the complement y
-pub record IsReducedTo (network : Network) (h : Order) (k : ℕ) (y : Complex) : Type 0 where
-  pub parts : List Part
-  pub order : List ℕ
-  pub rows : List (List Complex)
-  pub n : ℕ
-  pub system : IsNodalSystem network h parts order rows
-  pub last : IsLast order n k
-  pub value : (v : Complex) → IsComplement complex_numbers n rows y v

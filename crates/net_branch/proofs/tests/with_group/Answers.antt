@@ -1,5 +1,6 @@
 use Rattle.std.proofs.Common.{◌≢◌, ap, subst, sym, ◌∙◌, arith}
 use Rattle.std.specs.List.{AllByRecursion}
+use Rattle.network_theory.proofs.Couplings.{coupling_same}
 use Rattle.net_branch.specs.Exact.{exact_law}
 use Rattle.net_branch.proofs.tests.with_group.Goals as goal
 
@@ -7,19 +8,19 @@ pub push_group-requires-clause-three : goal.push_group-requires-clause-three
 push_group-requires-clause-three c =
     let a = c.in_ok-a.ensures in
     let b = c.in_ok-b.ensures in
-    let last = c.in_ok-c.ensures in (
-      _,
-      record {
-        first = ap exact_law a.law;
-        second = ap exact_law b.law;
-        third = ap exact_law last.law;
-        number = λ e. omega (arith, e, a.group);
-        same_second = b.group ∙ sym a.group;
-        same_third = last.group ∙ sym a.group;
-        owner_second = b.owner ∙ sym a.owner;
-        owner_third = last.owner ∙ sym a.owner;
-      },
-    )
+    let last = c.in_ok-c.ensures in
+    record {
+      first = record { values = _; law = ap exact_law a.law };
+      second = record { values = _; law = ap exact_law b.law };
+      third = record { values = _; law = ap exact_law last.law };
+      equal_second = coupling_same _;
+      equal_third = coupling_same _;
+      number = λ e. omega (arith, e, a.group);
+      same_second = b.group ∙ sym a.group;
+      same_third = last.group ∙ sym a.group;
+      owner_second = b.owner ∙ sym a.owner;
+      owner_third = last.owner ∙ sym a.owner;
+    }
 
 pub push_group-requires-clause-apart : goal.push_group-requires-clause-apart
 push_group-requires-clause-apart c =
