@@ -30,8 +30,8 @@ use Rattle.net_branch.specs.Whole.{IsWholeNetwork}
 use Rattle.net_branch.specs.declared.network.Network.{Network as BuiltNetwork}
 use Rattle.net_branch.specs.declared.fault.AddFault.{AddFault}
 use Rattle.net_branch.specs.declared.fault.AddFault.TheVariants.{TooMany, NoMemory}
-use Rattle.element_expansion.specs.Expansion.{is_too_large}
-use Rattle.element_expansion.proofs.Values.{kv_within}
+use Rattle.element_parts.specs.Expansion.{is_too_large}
+use Rattle.element_parts.proofs.Values.{kv_within}
 use Rattle.sequence_network.specs.Networks.{network_of}
 use Rattle.sequence_network.specs.Refusals.{IsLiveScan, HasLiveNetworks}
 use Rattle.harmscan_core.specs.Scan.{spec_of, order_of, test_of, boxes_in}

@@ -12,7 +12,7 @@ ghost use Rattle.harmscan_core.specs.Plan.{CanScan, IsPlan};
 use crate::plan::PlannedScan;
 use band_subdivision::{Scan, ScanSpec};
 use complex_interval::Enclosure;
-use element_expansion::kv;
+use element_parts::kv;
 use fixed_decimal::Decimal;
 use net_branch::{AddFault, NodeId};
 use sequence_network::build_sequence;

@@ -1,7 +1,7 @@
 -- A cascade as one section after another.
 use Rattle.std.proofs.Common.{◌≡◌, ℕ, ◌+◌, ◌-◌, ◌<◌, ◌++◌, suc, List, refl, append_assoc, arith}
 use Rattle.network_theory.specs.Branch.{Law, Branch}
-use Rattle.element_expansion.specs.Lines.{pi_section, cascade}
+use Rattle.line_pi.specs.Lines.{pi_section, cascade}
 
 -- the first section of those over a number of inner nodes above 0
 first_section : (series : Law) (end : List Law) (near next count rest after far owner : ℕ) → count ≡ suc rest → after ≡ next + 1

@@ -11,13 +11,13 @@ use Rattle.study_model.specs.declared.words.Sequence.{Sequence}
 use Rattle.study_model.specs.declared.words.Sequence.TheVariants.{Positive, Zero}
 use Rattle.study_model.specs.declared.records.Line.{Line}
 use Rattle.study_model.specs.declared.records.Study.{Study}
-use Rattle.element_expansion.specs.PerUnit.{kv_of, impedance_share, susceptance_share}
-use Rattle.element_expansion.specs.Expansion.{Expansion}
-use Rattle.element_expansion.specs.Lines.{pi_section, cascade, section_series, end_laws, line_of, line_in, line_expansion}
-use Rattle.element_expansion.specs.Plain.{IsPlainLaw, ArePlainLaws, ArePlain}
-use Rattle.element_expansion.proofs.PlainElements.{all_uncoupled}
-use Rattle.element_expansion.proofs.PlainLaws.{multiples, product_not_nought, plain_where, plain_between, plain_to_grounds, plain_both}
-use Rattle.element_expansion.proofs.Values.{kv_positive, product_above}
+use Rattle.element_parts.specs.PerUnit.{kv_of, impedance_share, susceptance_share}
+use Rattle.element_parts.specs.Expansion.{Expansion}
+use Rattle.line_pi.specs.Lines.{pi_section, cascade, section_series, end_laws, line_of, line_in, line_expansion}
+use Rattle.element_parts.specs.Plain.{IsPlainLaw, ArePlainLaws, ArePlain}
+use Rattle.element_parts.proofs.PlainElements.{all_uncoupled}
+use Rattle.element_parts.proofs.PlainLaws.{multiples, product_not_nought, plain_where, plain_between, plain_to_grounds, plain_both}
+use Rattle.element_parts.proofs.Values.{kv_positive, product_above}
 
 plain_section : (series : Law) (end : List Law) (nodes near far owner : ℕ) → near < nodes → far < nodes → IsPlainLaw series → ArePlainLaws end → ArePlain nodes (pi_section series end near far owner)
 plain_section series end nodes near far owner h k p q =

@@ -1,9 +1,9 @@
 -- The laws of sections have small values.
 use Rattle.std.proofs.Common.{ℕ, zero, suc, ◌+◌, List}
 use Rattle.network_theory.specs.Branch.{Law}
-use Rattle.element_expansion.specs.Small.{IsSmallLaw, AreSmallLaws, HaveSmallLaws}
-use Rattle.element_expansion.specs.Lines.{pi_section, cascade}
-use Rattle.element_expansion.proofs.SmallBranches.{small_to_ground, small_append}
+use Rattle.element_parts.specs.Small.{IsSmallLaw, AreSmallLaws, HaveSmallLaws}
+use Rattle.line_pi.specs.Lines.{pi_section, cascade}
+use Rattle.element_parts.proofs.SmallBranches.{small_to_ground, small_append}
 
 small_section : (series : Law) (end : List Law) (near far owner : ℕ) → IsSmallLaw series → AreSmallLaws end → HaveSmallLaws (pi_section series end near far owner)
 small_section series end near far owner h k = (h, small_append _ _ (small_to_ground near owner end k) (small_to_ground far owner end k))

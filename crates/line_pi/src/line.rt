@@ -7,12 +7,12 @@ ghost use Rattle.net_branch.specs.Exact.{exact_law, exact_branch, exact_network}
 ghost use Rattle.net_branch.specs.Whole.{IsWholeNetwork};
 ghost use Rattle.net_branch.specs.declared.limits.TheConstants.{MAX_NODES};
 ghost use Rattle.net_branch.specs.declared.fault.AddFault.TheVariants.{NoMemory};
-ghost use Rattle.element_expansion.specs.Small.{IsSmallLaw, AreSmallLaws, HaveSmallLaws};
-ghost use Rattle.element_expansion.specs.Expansion.{with_element, is_too_large};
-ghost use Rattle.element_expansion.specs.Lines.{section_series, end_laws, line_of, line_in, line_expansion};
+ghost use Rattle.element_parts.specs.Small.{IsSmallLaw, AreSmallLaws, HaveSmallLaws};
+ghost use Rattle.element_parts.specs.Expansion.{with_element, is_too_large};
+ghost use Rattle.line_pi.specs.Lines.{section_series, end_laws, line_of, line_in, line_expansion};
 
 use crate::section::cascade;
-use element_expansion::{Parts, add_plain, impedance_share, kv, skin_series, susceptance_share};
+use element_parts::{Parts, add_plain, impedance_share, kv, skin_series, susceptance_share};
 use fixed_decimal::Decimal;
 use net_branch::{AddFault, Branch, Law, Network};
 use sqlite_items::Items;
@@ -28,7 +28,7 @@ struct Values {
 }
 
 /// The series law of one of a line's sections.
-#[tactic(auto, using(element_expansion::proofs::Values::kv_positive))]
+#[tactic(auto, using(element_parts::proofs::Values::kv_positive))]
 fn section_series(study: &Study, line: &Line, r: Decimal, x: Decimal) -> Law
     requires study { IsLawful study.now }
     requires line { IsLawfulLine study.now.model study.now.buses line.now }
@@ -119,9 +119,9 @@ fn line_in(
 
 /// Adds a line as a cascade of nominal pi sections: for each section its impedance between its ends, then at its near end and at its far
 /// end half of its susceptance to ground, where there is any; its inner nodes come in order. In the zero network the same with its
-/// zero-sequence values where they are given, else nothing. `TooMany` exactly where the network would have more than 120 nodes or more
-/// than 800 branches. A refusal leaves the network as it was. (Arrillaga and Watson, Power System Harmonics.)
-#[tactic(auto, using(crate::proofs::Plain::uncoupled_line), unfolding(element_expansion::specs::Lines::line_expansion))]
+/// zero-sequence values where they are given, else nothing. `TooMany` exactly where the network would have more than `MAX_NODES` nodes or
+/// more than `MAX_BRANCHES` branches. A refusal leaves the network as it was. (Arrillaga and Watson, Power System Harmonics.)
+#[tactic(auto, using(crate::proofs::Plain::uncoupled_line), unfolding(crate::specs::Lines::line_expansion))]
 pub fn add_line(
     alloc: Global,
     network: &mut Network,

@@ -3,10 +3,10 @@ ghost use Rattle.std.specs.Prelude.{◌≡◌, ◌-◌, ◌≤◌, ◌++◌, map
 ghost use Rattle.net_branch.specs.Exact.{exact_law, exact_branch};
 ghost use Rattle.net_branch.specs.declared.limits.TheConstants.{MAX_NODES};
 ghost use Rattle.study_model.specs.declared.limits.TheConstants.{MAX_SECTIONS};
-ghost use Rattle.element_expansion.specs.Expansion.{to_ground};
-ghost use Rattle.element_expansion.specs.Lines.{pi_section, cascade};
+ghost use Rattle.element_parts.specs.Expansion.{to_ground};
+ghost use Rattle.line_pi.specs.Lines.{pi_section, cascade};
 
-use element_expansion::{between, to_ground};
+use element_parts::{between, to_ground};
 use net_branch::{Branch, Law};
 use sqlite_items::Items;
 use std::alloc::{AllocError, Global};

@@ -12,13 +12,14 @@ use Rattle.study_model.specs.declared.words.FilterKind.{FilterKind}
 use Rattle.study_model.specs.declared.words.FilterKind.TheVariants.{Single, HighPass, CType}
 use Rattle.study_model.specs.declared.records.Filter.{Filter}
 use Rattle.study_model.specs.declared.records.Study.{Study}
-use Rattle.element_expansion.specs.PerUnit.{impedance_of_rating, tuned_reactance, tuned_resistance, highpass_resistance, ctype_reactance, ctype_resistance}
-use Rattle.element_expansion.specs.Expansion.{Expansion, open_circuit, is_present}
-use Rattle.element_expansion.specs.Filters.{resonant, behind_capacitor, single_laws, highpass_laws, ctype_laws, filter_of, filter_expansion}
-use Rattle.element_expansion.specs.Plain.{IsPlainLaw, ArePlainLaws, ArePlain}
-use Rattle.element_expansion.proofs.Values.{product_above}
-use Rattle.element_expansion.proofs.PlainLaws.{not_nought, product_not_nought, plain_between, plain_to_grounds}
-use Rattle.element_expansion.proofs.PlainElements.{all_uncoupled}
+use Rattle.element_parts.specs.PerUnit.{impedance_of_rating}
+use Rattle.load_filter_model.specs.Filters.{tuned_reactance, tuned_resistance, highpass_resistance, ctype_reactance, ctype_resistance, resonant, behind_capacitor, single_laws, highpass_laws, ctype_laws, filter_of, filter_expansion}
+use Rattle.element_parts.specs.Expansion.{Expansion, open_circuit}
+use Rattle.load_filter_model.specs.Presence.{is_present}
+use Rattle.element_parts.specs.Plain.{IsPlainLaw, ArePlainLaws, ArePlain}
+use Rattle.element_parts.proofs.Values.{product_above}
+use Rattle.element_parts.proofs.PlainLaws.{not_nought, product_not_nought, plain_between, plain_to_grounds}
+use Rattle.element_parts.proofs.PlainElements.{all_uncoupled}
 
 -- an element's branches are at the nodes that there are and its own
 abbrev IsPlain : ℕ → Expansion → Type 0

@@ -5,11 +5,11 @@ use Rattle.network_theory.specs.Branch.{Law as ExactLaw}
 use Rattle.network_theory.specs.Network.{IsUncoupled}
 use Rattle.net_branch.specs.Exact.{exact_law}
 use Rattle.net_branch.specs.declared.network.Law.{Law}
-use Rattle.element_expansion.specs.Expansion.{grounded_at}
-use Rattle.element_expansion.specs.Plain.{ArePlainLaws}
-use Rattle.element_expansion.specs.Small.{IsSmallLaw, AreSmallLaws}
-use Rattle.element_expansion.proofs.PlainLaws.{plain_to_grounds}
-use Rattle.element_expansion.proofs.PlainElements.{all_uncoupled}
+use Rattle.element_parts.specs.Expansion.{grounded_at}
+use Rattle.element_parts.specs.Plain.{ArePlainLaws}
+use Rattle.element_parts.specs.Small.{IsSmallLaw, AreSmallLaws}
+use Rattle.element_parts.proofs.PlainLaws.{plain_to_grounds}
+use Rattle.element_parts.proofs.PlainElements.{all_uncoupled}
 
 -- one more law
 pub small_push : (xs : List Law) (x : Law) → AreSmallLaws (map exact_law xs) → IsSmallLaw (exact_law x) → AreSmallLaws (map exact_law (xs ++ x ∷ []))

@@ -12,10 +12,12 @@ use Rattle.study_model.specs.declared.words.LoadModel.{LoadModel}
 use Rattle.study_model.specs.declared.words.LoadModel.TheVariants as load_model
 use Rattle.study_model.specs.declared.records.Source.{Source}
 use Rattle.study_model.specs.declared.records.Study.{Study}
-use Rattle.element_expansion.specs.PerUnit.{impedance_per_unit, impedance_of_rating, susceptance_of_rating, cigre_series_reactance, cigre_parallel_reactance}
-use Rattle.element_expansion.specs.Expansion.{source_series, source_laws, series, cigre_laws, resistance_laws, reactance_laws, parallel_laws, load_laws}
-use Rattle.element_expansion.specs.Plain.{IsPlainLaw, ArePlainLaws}
-use Rattle.element_expansion.proofs.PlainLaws.{multiples, not_nought, plain_where, plain_if, plain_append}
+use Rattle.element_parts.specs.PerUnit.{impedance_per_unit, impedance_of_rating, susceptance_of_rating}
+use Rattle.load_filter_model.specs.Loads.{cigre_series_reactance, cigre_parallel_reactance, cigre_laws, resistance_laws, reactance_laws, parallel_laws, load_laws}
+use Rattle.element_parts.specs.Expansion.{series}
+use Rattle.load_filter_model.specs.Sources.{source_series, source_laws}
+use Rattle.element_parts.specs.Plain.{IsPlainLaw, ArePlainLaws}
+use Rattle.element_parts.proofs.PlainLaws.{multiples, not_nought, plain_where, plain_if, plain_append}
 
 source_there : (study : Study) (e : Source) (r x : ℤ) → pos 1 ≤ℤ study.mva → AreNotBothZero r x → IsPlainLaw (source_series study e r x)
 unfolding impedance_per_unit

@@ -7,12 +7,14 @@ ghost use Rattle.study_model.specs.Lawful.{IsLawful, IsLawfulBank};
 ghost use Rattle.net_branch.specs.Exact.{exact_law, exact_network};
 ghost use Rattle.net_branch.specs.Whole.{IsWholeNetwork};
 ghost use Rattle.net_branch.specs.declared.fault.AddFault.TheVariants.{NoMemory};
-ghost use Rattle.element_expansion.specs.PerUnit.{susceptance_of_rating};
-ghost use Rattle.element_expansion.specs.Small.{AreSmallLaws, HaveSmallLaws};
-ghost use Rattle.element_expansion.specs.Expansion.{is_present, bank_expansion, with_element, is_too_large};
+ghost use Rattle.element_parts.specs.PerUnit.{susceptance_of_rating};
+ghost use Rattle.element_parts.specs.Small.{AreSmallLaws, HaveSmallLaws};
+ghost use Rattle.element_parts.specs.Expansion.{with_element, is_too_large};
+ghost use Rattle.load_filter_model.specs.Presence.{is_present};
+ghost use Rattle.load_filter_model.specs.Banks.{bank_expansion};
 
 use crate::grounded::{add_grounded, is_present};
-use element_expansion::susceptance_of_rating;
+use element_parts::susceptance_of_rating;
 use fixed_decimal::Decimal;
 use net_branch::{AddFault, Law, Network};
 use sqlite_items::Items;
@@ -38,10 +40,10 @@ fn bank_laws(
     }
 }
 
-/// Adds a capacitor bank: its susceptance from its bus to ground; in the zero network the same where it is grounded or has a phase,
-/// else nothing. `TooMany` exactly where the network would have more than 120 nodes or more than 800 branches. A refusal leaves the
-/// network as it was. (Arrillaga and Watson, Power System Harmonics.)
-#[tactic(auto, using(element_expansion::proofs::SmallBranches::small_to_ground), unfolding(element_expansion::specs::Expansion::bank_expansion))]
+/// Adds a capacitor bank: its susceptance from its bus to ground; in the zero network the same where it is grounded or has a phase, else
+/// nothing. `TooMany` exactly where the network would have more than `MAX_NODES` nodes or more than `MAX_BRANCHES` branches. A refusal
+/// leaves the network as it was. (Arrillaga and Watson, Power System Harmonics.)
+#[tactic(auto, using(element_parts::proofs::SmallBranches::small_to_ground), unfolding(crate::specs::Banks::bank_expansion))]
 pub fn add_bank(
     alloc: Global,
     network: &mut Network,

@@ -1,8 +1,8 @@
 // The reactances of a load of the CIGRE model, in per unit.
 ghost use Rattle.std.specs.Prelude.{◌≡◌, ◌<◌, ◌^◌, ◌≤ℤ◌, ◌<ℤ◌, ◌*ℤ◌, ◌-ℤ◌, pos, int_lt, IsTrue, unsigned_abs};
 ghost use Rattle.exact_fraction.specs.Fraction.{ratio_of};
-ghost use Rattle.element_expansion.specs.PerUnit.{cigre_series_reactance, cigre_parallel_reactance};
-ghost use Rattle.element_expansion.specs.Small.{IsSmall};
+ghost use Rattle.load_filter_model.specs.Loads.{cigre_series_reactance, cigre_parallel_reactance};
+ghost use Rattle.element_parts.specs.Small.{IsSmall};
 
 use exact_fraction::Fraction;
 use fixed_decimal::Decimal;
@@ -33,7 +33,7 @@ pub fn has_parallel_reactance(p: Decimal, q: Decimal) -> bool
 }
 
 /// The reactance in series with the resistance: 0.073·s/p.
-#[tactic(auto, unfolding(element_expansion::specs::PerUnit::cigre_series_reactance))]
+#[tactic(auto, unfolding(crate::specs::Loads::cigre_series_reactance))]
 pub fn series_reactance(p: Decimal, mva: Decimal) -> Fraction
     requires { pos 1 ≤ℤ p }
     ensures value { ratio_of result ≡ cigre_series_reactance p mva }
@@ -43,7 +43,7 @@ pub fn series_reactance(p: Decimal, mva: Decimal) -> Fraction
 }
 
 /// The reactance beside them: s/(6.7·q - 0.74·p).
-#[tactic(auto, unfolding(element_expansion::specs::PerUnit::cigre_parallel_reactance))]
+#[tactic(auto, unfolding(crate::specs::Loads::cigre_parallel_reactance))]
 pub fn parallel_reactance(p: Decimal, q: Decimal, mva: Decimal) -> Fraction
     requires { IsTrue (int_lt (pos 74 *ℤ p) (pos 670 *ℤ q)) }
     ensures value { ratio_of result ≡ cigre_parallel_reactance p q mva }

@@ -12,15 +12,15 @@ ghost use Rattle.study_model.specs.declared.words.FilterKind.TheVariants.{HighPa
 ghost use Rattle.net_branch.specs.Exact.{exact_law, exact_branch, exact_network};
 ghost use Rattle.net_branch.specs.Whole.{IsWholeNetwork};
 ghost use Rattle.net_branch.specs.declared.fault.AddFault.TheVariants.{NoMemory};
-ghost use Rattle.element_expansion.specs.Small.{IsSmall, IsSmallLaw, HaveSmallLaws};
-ghost use Rattle.element_expansion.specs.Expansion.{grounded_at, with_element, is_too_large};
-ghost use Rattle.element_expansion.specs.Filters.{resonant, behind_capacitor, single_laws, filter_of, filter_expansion};
+ghost use Rattle.element_parts.specs.Small.{IsSmall, IsSmallLaw, HaveSmallLaws};
+ghost use Rattle.element_parts.specs.Expansion.{grounded_at, with_element, is_too_large};
+ghost use Rattle.load_filter_model.specs.Filters.{resonant, behind_capacitor, single_laws, filter_of, filter_expansion};
 
 use crate::grounded::is_present;
 use crate::tuned::{
     ctype_reactance, ctype_resistance, highpass_resistance, tuned_reactance, tuned_resistance,
 };
-use element_expansion::{add_plain, between, impedance_of_rating, series, to_ground, zero};
+use element_parts::{add_plain, between, impedance_of_rating, series, to_ground, zero};
 use exact_fraction::Fraction;
 use fixed_decimal::Decimal;
 use net_branch::{AddFault, Branch, Law, Network};
@@ -153,7 +153,7 @@ fn kind_branches(
 }
 
 /// The branches of a filter in a network, none where it is open.
-#[tactic(auto, unfolding(element_expansion::specs::Filters::filter_expansion))]
+#[tactic(auto, unfolding(crate::specs::Filters::filter_expansion))]
 fn filter_branches(
     alloc: Global,
     study: &Study,
@@ -186,7 +186,7 @@ fn kind_nodes(kind: FilterKind) -> u32
 }
 
 /// How many inner nodes a filter has in a network, none where it is open.
-#[tactic(auto, unfolding(element_expansion::specs::Filters::filter_expansion))]
+#[tactic(auto, unfolding(crate::specs::Filters::filter_expansion))]
 fn filter_nodes(filter: &Filter, sequence: Sequence) -> u32
     ensures { (study : StudyRecord) (owner next : ℕ) → (filter_expansion study filter.now owner sequence next).inner ≡ result }
 {
@@ -200,8 +200,8 @@ fn filter_nodes(filter: &Filter, sequence: Sequence) -> u32
 /// Adds a filter: a single tuned filter is a resistance, a reactance and a capacitor in series from its bus to ground; a high-pass filter
 /// is its capacitor to an inner node, and from there a resistance and a reactance side by side to ground; a C-type filter the same with a
 /// reactance and a second capacitor that are tuned to the fundamental. In the zero network the same where it is grounded or has a phase,
-/// else nothing. `TooMany` exactly where the network would have more than 120 nodes or more than 800 branches. A refusal leaves the
-/// network as it was. (Arrillaga and Watson, Power System Harmonics; a filter's rating is its capacitor's.)
+/// else nothing. `TooMany` exactly where the network would have more than `MAX_NODES` nodes or more than `MAX_BRANCHES` branches. A refusal
+/// leaves the network as it was. (Arrillaga and Watson, Power System Harmonics; a filter's rating is its capacitor's.)
 #[tactic(auto, using(crate::proofs::Filters::filter_uncoupled))]
 pub fn add_filter(
     alloc: Global,

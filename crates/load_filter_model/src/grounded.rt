@@ -6,10 +6,11 @@ ghost use Rattle.study_model.specs.declared.words.Sequence.{Sequence};
 ghost use Rattle.net_branch.specs.Exact.{exact_law, exact_branch, exact_network};
 ghost use Rattle.net_branch.specs.Whole.{IsWholeNetwork};
 ghost use Rattle.net_branch.specs.declared.fault.AddFault.TheVariants.{NoMemory};
-ghost use Rattle.element_expansion.specs.Expansion.{grounded_at, with_element, is_too_large, is_present};
-ghost use Rattle.element_expansion.specs.Plain.{ArePlainLaws};
+ghost use Rattle.element_parts.specs.Expansion.{grounded_at, with_element, is_too_large};
+ghost use Rattle.load_filter_model.specs.Presence.{is_present};
+ghost use Rattle.element_parts.specs.Plain.{ArePlainLaws};
 
-use element_expansion::{add_plain, to_ground};
+use element_parts::{add_plain, to_ground};
 use net_branch::{AddFault, Branch, Law, Network};
 use sqlite_items::Items;
 use std::alloc::{AllocError, Global};

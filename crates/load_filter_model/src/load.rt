@@ -9,13 +9,15 @@ ghost use Rattle.study_model.specs.declared.words.LoadModel.TheVariants as load_
 ghost use Rattle.net_branch.specs.Exact.{exact_law, exact_network};
 ghost use Rattle.net_branch.specs.Whole.{IsWholeNetwork};
 ghost use Rattle.net_branch.specs.declared.fault.AddFault.TheVariants.{NoMemory};
-ghost use Rattle.element_expansion.specs.PerUnit.{kv_of};
-ghost use Rattle.element_expansion.specs.Small.{AreSmallLaws, HaveSmallLaws};
-ghost use Rattle.element_expansion.specs.Expansion.{is_present, cigre_laws, resistance_laws, reactance_laws, parallel_laws, load_laws, load_expansion, with_element, is_too_large};
+ghost use Rattle.element_parts.specs.PerUnit.{kv_of};
+ghost use Rattle.element_parts.specs.Small.{AreSmallLaws, HaveSmallLaws};
+ghost use Rattle.element_parts.specs.Expansion.{with_element, is_too_large};
+ghost use Rattle.load_filter_model.specs.Presence.{is_present};
+ghost use Rattle.load_filter_model.specs.Loads.{cigre_laws, resistance_laws, reactance_laws, parallel_laws, load_laws, load_expansion};
 
 use crate::cigre::{has_parallel_reactance, parallel_reactance, series_reactance};
 use crate::grounded::{add_grounded, is_present};
-use element_expansion::{impedance, impedance_of_rating, kv, series, zero};
+use element_parts::{impedance, impedance_of_rating, kv, series, zero};
 use fixed_decimal::Decimal;
 use net_branch::{AddFault, Law, Network};
 use sqlite_items::Items;
@@ -127,9 +129,9 @@ fn laws_in(
 }
 
 /// Adds a load: the branches of its model from its bus to ground; in the zero network the same where it is grounded or has a phase, else
-/// nothing. `TooMany` exactly where the network would have more than 120 nodes or more than 800 branches. A refusal leaves the network as
-/// it was. (Arrillaga and Watson, Power System Harmonics; the CIGRE model with its coefficients 0.073, 6.7 and 0.74.)
-#[tactic(auto, using(element_expansion::proofs::SmallBranches::small_to_ground, element_expansion::proofs::Values::kv_positive), unfolding(element_expansion::specs::Expansion::load_expansion))]
+/// nothing. `TooMany` exactly where the network would have more than `MAX_NODES` nodes or more than `MAX_BRANCHES` branches. A refusal
+/// leaves the network as it was. (Arrillaga and Watson, Power System Harmonics; the CIGRE model with its coefficients 0.073, 6.7 and 0.74.)
+#[tactic(auto, using(element_parts::proofs::SmallBranches::small_to_ground, element_parts::proofs::Values::kv_positive), unfolding(crate::specs::Loads::load_expansion))]
 pub fn add_load(
     alloc: Global,
     network: &mut Network,

@@ -7,12 +7,13 @@ ghost use Rattle.study_model.specs.Lawful.{IsLawful, IsLawfulSource};
 ghost use Rattle.net_branch.specs.Exact.{exact_law, exact_network};
 ghost use Rattle.net_branch.specs.Whole.{IsWholeNetwork};
 ghost use Rattle.net_branch.specs.declared.fault.AddFault.TheVariants.{NoMemory};
-ghost use Rattle.element_expansion.specs.PerUnit.{kv_of};
-ghost use Rattle.element_expansion.specs.Small.{IsSmallLaw, AreSmallLaws, HaveSmallLaws};
-ghost use Rattle.element_expansion.specs.Expansion.{source_series, source_laws, source_expansion, with_element, is_too_large};
+ghost use Rattle.element_parts.specs.PerUnit.{kv_of};
+ghost use Rattle.element_parts.specs.Small.{IsSmallLaw, AreSmallLaws, HaveSmallLaws};
+ghost use Rattle.element_parts.specs.Expansion.{with_element, is_too_large};
+ghost use Rattle.load_filter_model.specs.Sources.{source_series, source_laws, source_expansion};
 
 use crate::grounded::add_grounded;
-use element_expansion::{impedance, kv, skin_series};
+use element_parts::{impedance, kv, skin_series};
 use fixed_decimal::Decimal;
 use net_branch::{AddFault, Law, Network};
 use sqlite_items::Items;
@@ -58,10 +59,10 @@ fn source_laws(
     }
 }
 
-/// Adds a source: its impedance from its bus to ground, with its skin coefficients; in the zero network its zero-sequence impedance
-/// where it is given, else nothing. `TooMany` exactly where the network would have more than 120 nodes or more than 800 branches. A
-/// refusal leaves the network as it was. (Arrillaga and Watson, Power System Harmonics.)
-#[tactic(auto, using(element_expansion::proofs::SmallBranches::small_to_ground, element_expansion::proofs::Values::kv_positive), unfolding(element_expansion::specs::Expansion::source_expansion))]
+/// Adds a source: its impedance from its bus to ground, with its skin coefficients; in the zero network its zero-sequence impedance where
+/// it is given, else nothing. `TooMany` exactly where the network would have more than `MAX_NODES` nodes or more than `MAX_BRANCHES`
+/// branches. A refusal leaves the network as it was. (Arrillaga and Watson, Power System Harmonics.)
+#[tactic(auto, using(element_parts::proofs::SmallBranches::small_to_ground, element_parts::proofs::Values::kv_positive), unfolding(crate::specs::Sources::source_expansion))]
 pub fn add_source(
     alloc: Global,
     network: &mut Network,

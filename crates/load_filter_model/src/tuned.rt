@@ -3,10 +3,10 @@ ghost use Rattle.std.specs.Prelude.{◌≡◌, ◌≤◌, ◌<◌, ◌^◌, ◌�
 ghost use Rattle.exact_fraction.specs.Fraction.{ratio_of};
 ghost use Rattle.study_model.specs.Range.{IsIn};
 ghost use Rattle.study_model.specs.declared.range.TheConstants.Range.{TUNED_ORDER, QUALITY};
-ghost use Rattle.element_expansion.specs.PerUnit.{tuned_reactance, tuned_resistance, highpass_resistance, above_fundamental, ctype_reactance, ctype_resistance};
-ghost use Rattle.element_expansion.specs.Small.{IsSmall};
+ghost use Rattle.load_filter_model.specs.Filters.{tuned_reactance, tuned_resistance, highpass_resistance, above_fundamental, ctype_reactance, ctype_resistance};
+ghost use Rattle.element_parts.specs.Small.{IsSmall};
 
-use element_expansion::{product, scaled, small, times};
+use element_parts::{product, scaled, small, times};
 use exact_fraction::Fraction;
 use fixed_decimal::Decimal;
 
@@ -47,7 +47,7 @@ fn order_quality(order: Decimal, quality: Decimal) -> i128
 }
 
 /// The reactance that is tuned with a filter's capacitor: s/(q·n²).
-#[tactic(auto, unfolding(element_expansion::specs::PerUnit::tuned_reactance))]
+#[tactic(auto, unfolding(crate::specs::Filters::tuned_reactance))]
 pub fn tuned_reactance(rating: Decimal, order: Decimal, mva: Decimal) -> Fraction
     requires rating { pos 1 ≤ℤ rating }
     requires order { IsIn TUNED_ORDER order }
@@ -58,7 +58,7 @@ pub fn tuned_reactance(rating: Decimal, order: Decimal, mva: Decimal) -> Fractio
 }
 
 /// The resistance of a single tuned filter: s/(q·n·w).
-#[tactic(auto, unfolding(element_expansion::specs::PerUnit::tuned_resistance))]
+#[tactic(auto, unfolding(crate::specs::Filters::tuned_resistance))]
 pub fn tuned_resistance(rating: Decimal, order: Decimal, quality: Decimal, mva: Decimal) -> Fraction
     requires rating { pos 1 ≤ℤ rating }
     requires order { IsIn TUNED_ORDER order }
@@ -73,7 +73,7 @@ pub fn tuned_resistance(rating: Decimal, order: Decimal, quality: Decimal, mva: 
 }
 
 /// A rating times an order, in units of 10^-12.
-#[tactic(auto, using(element_expansion::proofs::Values::product_above))]
+#[tactic(auto, using(element_parts::proofs::Values::product_above))]
 fn rating_order(rating: Decimal, order: Decimal) -> i128
     requires rating { pos 1 ≤ℤ rating }
     requires order { IsIn TUNED_ORDER order }
@@ -85,7 +85,7 @@ fn rating_order(rating: Decimal, order: Decimal) -> i128
 }
 
 /// The resistance of a high-pass filter: w·s/(q·n).
-#[tactic(auto, unfolding(element_expansion::specs::PerUnit::highpass_resistance))]
+#[tactic(auto, unfolding(crate::specs::Filters::highpass_resistance))]
 pub fn highpass_resistance(
     rating: Decimal,
     order: Decimal,
@@ -101,7 +101,7 @@ pub fn highpass_resistance(
 }
 
 /// The reactance of a C-type filter: s/(q·(n² - 1)).
-#[tactic(auto, unfolding(element_expansion::specs::PerUnit::ctype_reactance))]
+#[tactic(auto, unfolding(crate::specs::Filters::ctype_reactance))]
 pub fn ctype_reactance(rating: Decimal, order: Decimal, mva: Decimal) -> Fraction
     requires rating { pos 1 ≤ℤ rating }
     requires order { IsIn TUNED_ORDER order }
@@ -123,7 +123,7 @@ fn quality_order_base(quality: Decimal, order: Decimal, mva: Decimal) -> i128
 }
 
 /// The resistance of a C-type filter: w·n·s/(q·(n² - 1)).
-#[tactic(auto, unfolding(element_expansion::specs::PerUnit::ctype_resistance))]
+#[tactic(auto, unfolding(crate::specs::Filters::ctype_resistance))]
 pub fn ctype_resistance(rating: Decimal, order: Decimal, quality: Decimal, mva: Decimal) -> Fraction
     requires rating { pos 1 ≤ℤ rating }
     requires order { IsIn TUNED_ORDER order }

@@ -11,8 +11,10 @@ use Rattle.network_theory.specs.OneNode.{ground_tap, IsOneNode, sum_of}
 use Rattle.network_theory.proofs.OneNode.{one_node_reduced}
 use Rattle.network_theory.proofs.Reduced.{reduced_impedance}
 use Rattle.study_model.specs.declared.words.Sequence.TheVariants.{Positive}
-use Rattle.element_expansion.specs.PerUnit.{as_written, impedance_per_unit, impedance_of_rating, susceptance_of_rating}
-use Rattle.element_expansion.specs.Expansion.{source_expansion, load_expansion, bank_expansion}
+use Rattle.element_parts.specs.PerUnit.{as_written, impedance_per_unit, impedance_of_rating, susceptance_of_rating}
+use Rattle.load_filter_model.specs.Sources.{source_expansion}
+use Rattle.load_filter_model.specs.Loads.{load_expansion}
+use Rattle.load_filter_model.specs.Banks.{bank_expansion}
 use Rattle.sequence_network.specs.Networks.{network_of}
 use Rattle.sequence_network.specs.Worked.{worked_study, AtOrderTwo}
 open complex_numbers use {◌≈◌, nought, unit, ◌⊗◌}

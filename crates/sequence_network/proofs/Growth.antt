@@ -5,7 +5,7 @@ use Rattle.std.proofs.lemmas.List.{length-map}
 use Rattle.std.specs.List.{AllByRecursion}
 use Rattle.network_theory.specs.Branch.{Branch}
 use Rattle.network_theory.specs.Network.{Network}
-use Rattle.element_expansion.specs.Expansion.{with_element, is_too_large}
+use Rattle.element_parts.specs.Expansion.{with_element, is_too_large}
 use Rattle.net_branch.specs.declared.limits.TheConstants.{MAX_NODES, MAX_BRANCHES}
 use Rattle.net_branch.specs.Exact.{exact_network, exact_branch}
 use Rattle.net_branch.specs.Whole.{IsWithinLimits}

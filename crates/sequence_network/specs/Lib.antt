@@ -1,3 +1,4 @@
 pub mod Networks
+pub mod Built
 pub mod Refusals
 pub mod Worked

@@ -10,10 +10,13 @@ use Rattle.study_model.specs.declared.records.Load.{Load}
 use Rattle.study_model.specs.declared.records.Bank.{Bank}
 use Rattle.study_model.specs.declared.records.Filter.{Filter}
 use Rattle.study_model.specs.declared.records.Study.{Study}
-use Rattle.element_expansion.specs.Expansion.{Expansion, with_element, source_expansion, load_expansion, bank_expansion}
-use Rattle.element_expansion.specs.Lines.{line_expansion}
-use Rattle.element_expansion.specs.Transformers.{transformer_expansion}
-use Rattle.element_expansion.specs.Filters.{filter_expansion}
+use Rattle.element_parts.specs.Expansion.{Expansion, with_element}
+use Rattle.load_filter_model.specs.Sources.{source_expansion}
+use Rattle.load_filter_model.specs.Loads.{load_expansion}
+use Rattle.load_filter_model.specs.Banks.{bank_expansion}
+use Rattle.line_pi.specs.Lines.{line_expansion}
+use Rattle.transformer_model.specs.Transformers.{transformer_expansion}
+use Rattle.load_filter_model.specs.Filters.{filter_expansion}
 
 -- an element of a study
 pub data StudyElement : Type 0 where

@@ -10,7 +10,7 @@ use Rattle.study_model.specs.declared.fault.StudyFault.{StudyFault}
 use Rattle.study_model.specs.declared.fault.StudyFault.TheVariants.{TooMany, Floating}
 use Rattle.study_model.specs.declared.records.ScanItem.{ScanItem}
 use Rattle.study_model.specs.declared.records.Study.{Study}
-use Rattle.element_expansion.specs.Expansion.{is_too_large}
+use Rattle.element_parts.specs.Expansion.{is_too_large}
 use Rattle.sequence_network.specs.Networks.{network_of}
 
 -- the place of a network

@@ -6,8 +6,8 @@ ghost use Rattle.study_model.specs.Lawful.{IsLawful};
 ghost use Rattle.net_branch.specs.Exact.{exact_network};
 ghost use Rattle.net_branch.specs.Whole.{IsWholeNetwork};
 ghost use Rattle.net_branch.specs.declared.fault.AddFault.TheVariants.{NoMemory};
-ghost use Rattle.element_expansion.specs.Small.{HaveSmallLaws};
-ghost use Rattle.element_expansion.specs.Expansion.{is_too_large};
+ghost use Rattle.element_parts.specs.Small.{HaveSmallLaws};
+ghost use Rattle.element_parts.specs.Expansion.{is_too_large};
 ghost use Rattle.sequence_network.specs.Networks.{network_of};
 
 use crate::elements::add_section;
@@ -16,8 +16,8 @@ use std::alloc::Global;
 use study_model::{Sequence, Study};
 
 /// The positive or the zero network of a study, in per unit: a node for each bus, and the elements in the order of their numbers, which
-/// count from 1 over sources, lines, transformers, loads, banks and filters. `TooMany` exactly where it has more than 120 nodes or more
-/// than 800 branches. (Arrillaga and Watson, Power System Harmonics.)
+/// count from 1 over sources, lines, transformers, loads, banks and filters. `TooMany` exactly where it has more than `MAX_NODES` nodes or
+/// more than `MAX_BRANCHES` branches. (Arrillaga and Watson, Power System Harmonics.)
 pub fn build_sequence(alloc: Global, study: &Study, sequence: Sequence) -> Result<Network, AddFault>
     requires { IsLawful study.now }
     ensures network { IfOk result (λ network. exact_network network ≡ network_of study.now sequence) }

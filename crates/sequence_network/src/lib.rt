@@ -7,5 +7,5 @@ mod live;
 mod worked;
 
 pub use build::build_sequence;
-pub use live::check_live;
+pub use live::{Networks, check_live, networks_of};
 pub use worked::impedance_by_hand;

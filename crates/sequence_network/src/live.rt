@@ -7,9 +7,9 @@ ghost use Rattle.study_model.specs.declared.fault.StudyFault.{StudyFault};
 ghost use Rattle.study_model.specs.declared.fault.StudyFault.TheVariants.{TooMany, NoMemory};
 ghost use Rattle.net_branch.specs.Exact.{exact_network};
 ghost use Rattle.net_branch.specs.LiveNodes.{AreLive};
-ghost use Rattle.net_branch.specs.Whole.{IsWholeNetwork};
-ghost use Rattle.element_expansion.specs.Expansion.{is_too_large};
+ghost use Rattle.element_parts.specs.Expansion.{is_too_large};
 ghost use Rattle.sequence_network.specs.Networks.{network_of};
+ghost use Rattle.sequence_network.specs.Built.{IsNetworkOf};
 ghost use Rattle.sequence_network.specs.Refusals.{network_place, bus_place, scan_place, IsLiveScan, IsFloatingBus, IsFloatingScan, IsLiveRefusal, HasLiveNetworks};
 
 use crate::build::build_sequence;
@@ -17,12 +17,17 @@ use net_branch::{AddFault, Network, live};
 use std::alloc::Global;
 use study_model::{Key, Place, ScanItem, Section, Sequence, Study, StudyFault};
 
+/// The two sequence networks of a study, in per unit.
+#[derive(Drop)]
+pub struct Networks {
+    pub positive: Network,
+    pub zero: Network,
+}
+
 /// The network of a sequence, or why the study is refused for it.
 fn network(alloc: Global, study: &Study, sequence: Sequence) -> Result<Network, StudyFault>
     requires { IsLawful study.now }
-    ensures network { IfOk result (λ network. exact_network network ≡ network_of study.now sequence) }
-    ensures whole { IfOk result IsWholeNetwork }
-    ensures fits { OnOk result (IsFalse (is_too_large (network_of study.now sequence))) }
+    ensures network { IfOk result (IsNetworkOf study.now sequence) }
     ensures place { IfErr result (λ fault. fault ≢ NoMemory → fault ≡ TooMany network_place) }
     ensures too_many { IfErr result (λ fault. fault ≢ NoMemory → IsTrue (is_too_large (network_of study.now sequence))) }
 {
@@ -92,23 +97,57 @@ fn check_scans(network: &Network, live: &[bool], scans: &[ScanItem]) -> Result<(
     Ok(())
 }
 
-/// Whether a study's two networks are within the limits and its buses live in them. The first refusal in this order: `TooMany` of the
-/// positive and then of the zero network; `Floating` of the first bus that isn't live in the positive network; `Floating` of the first
-/// scan of the zero network whose bus isn't live there. (This project's own.)
+/// Whether the buses of a study are live in its networks.
+fn check_networks(
+    alloc: Global,
+    study: &Study,
+    positive: &Network,
+    zero: &Network,
+) -> Result<(), StudyFault>
+    requires study { IsLawful study.now }
+    requires positive { IsNetworkOf study.now Positive positive.now }
+    requires zero { IsNetworkOf study.now Zero zero.now }
+    ensures live { OnOk result (HasLiveNetworks study.now) }
+    ensures refused { IfErr result (λ fault. fault ≢ NoMemory → IsLiveRefusal study.now fault) }
+{
+    let Ok(in_positive) = live(alloc, positive) else {
+        return Err(StudyFault::NoMemory);
+    };
+    let Ok(in_zero) = live(alloc, zero) else {
+        return Err(StudyFault::NoMemory);
+    };
+    check_buses(positive, &in_positive, study.buses.len() as u32)?;
+    check_scans(zero, &in_zero, study.scans.as_slice())
+}
+
+/// The positive and the zero network of a study, where both are within the limits and its buses live in them. The first refusal in this
+/// order: `TooMany` of the positive and then of the zero network; `Floating` of the first bus that isn't live in the positive network;
+/// `Floating` of the first scan of the zero network whose bus isn't live there. (This project's own.)
+pub fn networks_of(alloc: Global, study: &Study) -> Result<Networks, StudyFault>
+    requires { IsLawful study.now }
+    ensures positive { IfOk result (λ networks. IsNetworkOf study.now Positive networks.positive) }
+    ensures zero { IfOk result (λ networks. IsNetworkOf study.now Zero networks.zero) }
+    ensures live { OnOk result (HasLiveNetworks study.now) }
+    ensures refused { IfErr result (λ fault. fault ≢ NoMemory → IsLiveRefusal study.now fault) }
+{
+    let positive = network(alloc, study, Sequence::Positive)?;
+    let zero = network(alloc, study, Sequence::Zero)?;
+    match check_networks(alloc, study, &positive, &zero) {
+        Ok(()) => Ok(Networks { positive, zero }),
+        Err(fault) => Err(fault),
+    }
+}
+
+/// Whether `networks_of` answers networks for a study, else its refusal.
+#[tactic(auto, using(crate::proofs::Liveness::no_refusal))]
 pub fn check_live(alloc: Global, study: &Study) -> Result<(), StudyFault>
     requires { IsLawful study.now }
     ensures ok { OnOk result (HasLiveNetworks study.now) }
     ensures refused { IfErr result (λ fault. fault ≢ NoMemory → IsLiveRefusal study.now fault) }
     ensures none { OnOk result ((fault : StudyFault) → ¬ (IsLiveRefusal study.now fault)) }
 {
-    let positive = network(alloc, study, Sequence::Positive)?;
-    let zero = network(alloc, study, Sequence::Zero)?;
-    let Ok(in_positive) = live(alloc, &positive) else {
-        return Err(StudyFault::NoMemory);
-    };
-    let Ok(in_zero) = live(alloc, &zero) else {
-        return Err(StudyFault::NoMemory);
-    };
-    check_buses(&positive, &in_positive, study.buses.len() as u32)?;
-    check_scans(&zero, &in_zero, study.scans.as_slice())
+    match networks_of(alloc, study) {
+        Ok(_) => Ok(()),
+        Err(fault) => Err(fault),
+    }
 }

@@ -12,10 +12,10 @@ use Rattle.study_model.specs.declared.words.Connection.{Connection}
 use Rattle.study_model.specs.declared.words.Connection.TheVariants.{Grounded, Star, Delta}
 use Rattle.study_model.specs.declared.records.Transformer.{Transformer}
 use Rattle.study_model.specs.declared.records.Study.{Study}
-use Rattle.element_expansion.specs.PerUnit.{percent_per_unit, impedance_per_unit, inverse_ratio}
-use Rattle.element_expansion.specs.Plain.{IsPlainLaw, ArePlainLaws, IsPlainBranch, ArePlain}
-use Rattle.element_expansion.specs.Transformers.{leakage, windings, winding, neutral_laws, neutral, behind, both_grounded, one_grounded, zero_transformer, transformer_in}
-use Rattle.element_expansion.proofs.PlainLaws.{multiples, product_not_nought, plain_where, plain_betweens, plain_both}
+use Rattle.element_parts.specs.PerUnit.{percent_per_unit, impedance_per_unit, inverse_ratio}
+use Rattle.element_parts.specs.Plain.{IsPlainLaw, ArePlainLaws, IsPlainBranch, ArePlain}
+use Rattle.transformer_model.specs.Transformers.{leakage, windings, winding, neutral_laws, neutral, behind, both_grounded, one_grounded, zero_transformer, transformer_in}
+use Rattle.element_parts.proofs.PlainLaws.{multiples, product_not_nought, plain_where, plain_betweens, plain_both}
 
 -- the reactance of a leakage is above 0
 leakage_plain : (study : Study) (e : Transformer) → pos 1 ≤ℤ study.mva → pos 1 ≤ℤ e.x → IsPlainLaw (leakage study e)

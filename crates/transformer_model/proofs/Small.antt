@@ -2,7 +2,7 @@
 use Rattle.std.proofs.Common.{List, [], ◌∷◌, ◌++◌, map}
 use Rattle.net_branch.specs.Exact.{exact_law, exact_branch}
 use Rattle.net_branch.specs.declared.network.Branch.{Branch}
-use Rattle.element_expansion.specs.Small.{IsSmallLaw, HaveSmallLaws}
+use Rattle.element_parts.specs.Small.{IsSmallLaw, HaveSmallLaws}
 
 -- one more branch
 pub small_push : (xs : List Branch) (b : Branch) → HaveSmallLaws (map exact_branch xs) → IsSmallLaw (exact_law b.law) → HaveSmallLaws (map exact_branch (xs ++ b ∷ []))

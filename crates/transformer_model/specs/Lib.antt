@@ -1,1 +1,2 @@
+pub mod Transformers
 pub mod NeutralLaws

@@ -2,10 +2,10 @@
 ghost use Rattle.std.specs.Prelude.{◌≡◌, ◌≤ℤ◌, pos, IfOk};
 ghost use Rattle.exact_fraction.specs.Fraction.{ratio_of};
 ghost use Rattle.net_branch.specs.Exact.{exact_law, exact_branch};
-ghost use Rattle.element_expansion.specs.Small.{IsSmallLaw};
-ghost use Rattle.element_expansion.specs.Transformers.{leakage, windings, winding};
+ghost use Rattle.element_parts.specs.Small.{IsSmallLaw};
+ghost use Rattle.transformer_model.specs.Transformers.{leakage, windings, winding};
 
-use element_expansion::{inverse_ratio, percent, skin_series};
+use element_parts::{inverse_ratio, percent, skin_series};
 use exact_fraction::Fraction;
 use net_branch::{Branch, Law, NodeId, Tap};
 use sqlite_items::Items;

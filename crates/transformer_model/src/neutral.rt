@@ -3,12 +3,12 @@ ghost use Rattle.std.specs.Prelude.{◌≡◌, ◌<◌, ◌≤◌, ◌≤ℤ◌,
 ghost use Rattle.exact_algebra.specs.Ratio.{whole};
 ghost use Rattle.network_theory.specs.Branch.{Series};
 ghost use Rattle.net_branch.specs.Exact.{exact_law, exact_branch};
-ghost use Rattle.element_expansion.specs.PerUnit.{kv_of, as_written, impedance_per_unit};
-ghost use Rattle.element_expansion.specs.Small.{IsSmallLaw, AreSmallLaws, HaveSmallLaws};
-ghost use Rattle.element_expansion.specs.Transformers.{neutral_laws, neutral, behind};
+ghost use Rattle.element_parts.specs.PerUnit.{kv_of, as_written, impedance_per_unit};
+ghost use Rattle.element_parts.specs.Small.{IsSmallLaw, AreSmallLaws, HaveSmallLaws};
+ghost use Rattle.transformer_model.specs.Transformers.{neutral_laws, neutral, behind};
 ghost use Rattle.transformer_model.specs.NeutralLaws.{laws_of};
 
-use element_expansion::{between, kv, skin_series, triple_impedance};
+use element_parts::{between, kv, skin_series, triple_impedance};
 use fixed_decimal::Decimal;
 use net_branch::{Branch, Law};
 use sqlite_items::Items;

@@ -6,14 +6,15 @@ ghost use Rattle.study_model.specs.Lawful.{IsLawful, IsLawfulTransformer};
 ghost use Rattle.net_branch.specs.Exact.{exact_network};
 ghost use Rattle.net_branch.specs.Whole.{IsWholeNetwork};
 ghost use Rattle.net_branch.specs.declared.fault.AddFault.TheVariants.{NoMemory};
-ghost use Rattle.element_expansion.specs.Small.{HaveSmallLaws};
-ghost use Rattle.element_expansion.specs.Expansion.{with_element, is_too_large};
-ghost use Rattle.element_expansion.specs.Transformers.{windings, transformer_in, transformer_expansion};
-ghost use Rattle.element_expansion.specs.Parts.{exact_parts};
+ghost use Rattle.net_branch.specs.declared.limits.TheConstants.{MAX_NODES};
+ghost use Rattle.element_parts.specs.Small.{HaveSmallLaws};
+ghost use Rattle.element_parts.specs.Expansion.{with_element, is_too_large};
+ghost use Rattle.transformer_model.specs.Transformers.{windings, transformer_in, transformer_expansion};
+ghost use Rattle.element_parts.specs.Parts.{exact_parts};
 
 use crate::leakage::windings;
 use crate::zero::zero_parts;
-use element_expansion::{Parts, add_plain};
+use element_parts::{Parts, add_plain};
 use net_branch::{AddFault, Network};
 use sqlite_items::Items;
 use std::alloc::{AllocError, Global};
@@ -55,7 +56,7 @@ fn transformer_parts(
 ) -> Result<Parts, AllocError>
     requires study { IsLawful study.now }
     requires transformer { IsLawfulTransformer study.now.buses transformer.now }
-    requires next { next ≤ 120 }
+    requires next { next ≤ MAX_NODES }
     ensures value { IfOk result (λ parts. exact_parts parts ≡ transformer_in study.now transformer.now owner next sequence) }
     ensures small { IfOk result (λ parts. HaveSmallLaws (exact_parts parts).branches) }
 {
@@ -67,9 +68,9 @@ fn transformer_parts(
 
 /// Adds a transformer: its leakage impedance between its two buses, with its ratio at the from side. In the zero network it is a way
 /// through where both sides are grounded, a way to ground at its grounded side where the other is in delta, each behind three times the
-/// impedance of a grounded side's neutral, and else nothing. `TooMany` exactly where the network would have more than 120 nodes or more
-/// than 800 branches. A refusal leaves the network as it was. (Arrillaga and Watson, Power System Harmonics.)
-#[tactic(auto, unfolding(element_expansion::specs::Transformers::transformer_expansion))]
+/// impedance of a grounded side's neutral, and else nothing. `TooMany` exactly where the network would have more than `MAX_NODES` nodes or
+/// more than `MAX_BRANCHES` branches. A refusal leaves the network as it was. (Arrillaga and Watson, Power System Harmonics.)
+#[tactic(auto, unfolding(crate::specs::Transformers::transformer_expansion))]
 pub fn add_transformer(
     alloc: Global,
     network: &mut Network,

@@ -4,14 +4,15 @@ ghost use Rattle.exact_algebra.specs.Ratio.{whole};
 ghost use Rattle.exact_fraction.specs.Fraction.{ratio_of};
 ghost use Rattle.study_model.specs.Lawful.{IsLawful, IsLawfulTransformer};
 ghost use Rattle.study_model.specs.declared.words.Connection.TheVariants.{Grounded, Delta};
-ghost use Rattle.element_expansion.specs.Small.{AreSmallLaws, HaveSmallLaws};
-ghost use Rattle.element_expansion.specs.Transformers.{both_grounded, one_grounded, neutral_laws, zero_transformer};
-ghost use Rattle.element_expansion.specs.Parts.{exact_parts};
+ghost use Rattle.net_branch.specs.declared.limits.TheConstants.{MAX_NODES};
+ghost use Rattle.element_parts.specs.Small.{AreSmallLaws, HaveSmallLaws};
+ghost use Rattle.transformer_model.specs.Transformers.{both_grounded, one_grounded, neutral_laws, zero_transformer};
+ghost use Rattle.element_parts.specs.Parts.{exact_parts};
 ghost use Rattle.transformer_model.specs.NeutralLaws.{laws_of};
 
 use crate::leakage::{winding, windings};
 use crate::neutral::{inner_nodes, neutral_law, node_behind, push_neutral};
-use element_expansion::{Parts, inverse_ratio};
+use element_parts::{Parts, inverse_ratio};
 use exact_fraction::Fraction;
 use net_branch::Law;
 use sqlite_items::Items;
@@ -32,7 +33,7 @@ fn both_grounded(
 ) -> Result<Parts, AllocError>
     requires mva { pos 1 ≤ℤ transformer.now.mva }
     requires ratio { pos 1 ≤ℤ transformer.now.ratio }
-    requires next { next ≤ 120 }
+    requires next { next ≤ MAX_NODES }
     requires from { AreSmallLaws (laws_of from) }
     requires to { AreSmallLaws (laws_of to) }
     ensures value { IfOk result (λ parts. exact_parts parts ≡ both_grounded study.now transformer.now owner next (laws_of from) (laws_of to)) }
@@ -88,7 +89,7 @@ fn one() -> Fraction
 }
 
 /// Three times the impedance of the from side's neutral.
-#[tactic(auto, using(element_expansion::proofs::Values::kv_positive))]
+#[tactic(auto, using(element_parts::proofs::Values::kv_positive))]
 fn from_neutral(study: &Study, transformer: &Transformer) -> Option<Law>
     requires study { IsLawful study.now }
     requires transformer { IsLawfulTransformer study.now.buses transformer.now }
@@ -105,7 +106,7 @@ fn from_neutral(study: &Study, transformer: &Transformer) -> Option<Law>
 }
 
 /// Three times the impedance of the to side's neutral.
-#[tactic(auto, using(element_expansion::proofs::Values::kv_positive))]
+#[tactic(auto, using(element_parts::proofs::Values::kv_positive))]
 fn to_neutral(study: &Study, transformer: &Transformer) -> Option<Law>
     requires study { IsLawful study.now }
     requires transformer { IsLawfulTransformer study.now.buses transformer.now }
@@ -131,7 +132,7 @@ fn through(
 ) -> Result<Parts, AllocError>
     requires study { IsLawful study.now }
     requires transformer { IsLawfulTransformer study.now.buses transformer.now }
-    requires next { next ≤ 120 }
+    requires next { next ≤ MAX_NODES }
     ensures value { IfOk result (λ parts. exact_parts parts ≡ zero_transformer study.now transformer.now owner next Grounded Grounded) }
     ensures small { IfOk result (λ parts. HaveSmallLaws (exact_parts parts).branches) }
 {
@@ -203,7 +204,7 @@ pub fn zero_parts(
 ) -> Result<Parts, AllocError>
     requires study { IsLawful study.now }
     requires transformer { IsLawfulTransformer study.now.buses transformer.now }
-    requires next { next ≤ 120 }
+    requires next { next ≤ MAX_NODES }
     ensures value { IfOk result (λ parts. exact_parts parts ≡ zero_transformer study.now transformer.now owner next transformer.now.from_conn transformer.now.to_conn) }
     ensures small { IfOk result (λ parts. HaveSmallLaws (exact_parts parts).branches) }
 {

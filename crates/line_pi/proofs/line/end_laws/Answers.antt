@@ -1,4 +1,4 @@
-use Rattle.element_expansion.proofs.Values.{kv_within}
+use Rattle.element_parts.proofs.Values.{kv_within}
 use Rattle.line_pi.proofs.line.end_laws.Goals as goal
 
 pub susceptance_share-b-requires-clause-kv : goal.susceptance_share-b-requires-clause-kv

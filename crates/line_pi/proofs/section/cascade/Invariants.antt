@@ -1,6 +1,6 @@
 use Rattle.std.proofs.Common.{◌≡◌, ◌+◌, ◌-◌, ◌++◌, map}
 use Rattle.net_branch.specs.Exact.{exact_law, exact_branch}
-use Rattle.element_expansion.specs.Lines.{cascade}
+use Rattle.line_pi.specs.Lines.{cascade}
 use Rattle.line_pi.proofs.section.cascade.Given as goal
 
 -- the branches so far, and the sections that remain, are those of the whole line

@@ -1,6 +1,6 @@
 use Rattle.std.proofs.Common.{◌≡◌, ◌++◌, map, take}
 use Rattle.net_branch.specs.Exact.{exact_law, exact_branch}
-use Rattle.element_expansion.specs.Expansion.{to_ground}
+use Rattle.element_parts.specs.Expansion.{to_ground}
 use Rattle.line_pi.proofs.section.push_end.Given as goal
 
 abbrev pub invariant-loop-law : goal.invariant-loop-law

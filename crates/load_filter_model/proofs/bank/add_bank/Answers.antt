@@ -1,4 +1,4 @@
-use Rattle.element_expansion.specs.Expansion.{is_present}
+use Rattle.load_filter_model.specs.Presence.{is_present}
 use Rattle.load_filter_model.proofs.NotZero.{bank_not_zero}
 use Rattle.load_filter_model.proofs.bank.add_bank.Goals as goal
 

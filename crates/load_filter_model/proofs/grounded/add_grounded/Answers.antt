@@ -1,6 +1,6 @@
 use Rattle.std.proofs.Common.{◌+◌, map, arith}
 use Rattle.net_branch.specs.Exact.{exact_law}
-use Rattle.element_expansion.proofs.PlainLaws.{plain_to_grounds}
+use Rattle.element_parts.proofs.PlainLaws.{plain_to_grounds}
 use Rattle.load_filter_model.proofs.grounded.add_grounded.Goals as goal
 
 pub add_plain-requires-clause-plain : goal.add_plain-requires-clause-plain

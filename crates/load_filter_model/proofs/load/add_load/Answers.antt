@@ -1,6 +1,6 @@
 use Rattle.std.proofs.Common.{pos, ◌≤ℤ◌, arith}
 use Rattle.std.proofs.lemmas.Int.{ints}
-use Rattle.element_expansion.proofs.PlainLaws.{plain_if}
+use Rattle.element_parts.proofs.PlainLaws.{plain_if}
 use Rattle.load_filter_model.proofs.NotZero.{load_not_zero}
 use Rattle.load_filter_model.proofs.load.add_load.Goals as goal
 

@@ -3,7 +3,7 @@ use Rattle.std.proofs.lemmas.Result.{err_from_is_err_and}
 use Rattle.std.specs.List.{AllByRecursion}
 use Rattle.network_theory.specs.Network.{Network, IsUncoupled}
 use Rattle.net_branch.specs.Exact.{exact_network}
-use Rattle.element_expansion.specs.Small.{HaveSmallLaws}
+use Rattle.element_parts.specs.Small.{HaveSmallLaws}
 use Rattle.sequence_network.specs.Networks.{with_elements, network_of}
 use Rattle.sequence_network.proofs.Growth.{along, start_of, from_lines, from_transformers, from_loads, from_banks, from_filters, not_too_large}
 use Rattle.sequence_network.proofs.build.build_sequence.Goals as goal

@@ -3,7 +3,7 @@ use Rattle.std.specs.List.{AllByRecursion}
 use Rattle.network_theory.specs.Network.{IsUncoupled}
 use Rattle.net_branch.specs.Exact.{exact_network}
 use Rattle.net_branch.specs.Whole.{IsWholeNetwork}
-use Rattle.element_expansion.specs.Small.{HaveSmallLaws}
+use Rattle.element_parts.specs.Small.{HaveSmallLaws}
 use Rattle.sequence_network.specs.Networks.{StudyElement, with_elements}
 use Rattle.sequence_network.proofs.elements.add_section.Given as goal
 

@@ -1,6 +1,6 @@
 use Rattle.std.proofs.Common.{◌+◌, ◌≤◌, length, subst, sym, arith}
-use Rattle.element_expansion.specs.Expansion.{Expansion}
-use Rattle.element_expansion.specs.Plain.{ArePlain}
+use Rattle.element_parts.specs.Expansion.{Expansion}
+use Rattle.element_parts.specs.Plain.{ArePlain}
 use Rattle.transformer_model.proofs.Plain.{transformer_plain}
 use Rattle.transformer_model.proofs.transformer.add_transformer.Goals as goal
 

@@ -1,8 +1,8 @@
 -- Branches whose laws have small values.
 use Rattle.std.proofs.Common.{ℕ, List, [], ◌∷◌, ◌++◌, map}
 use Rattle.network_theory.specs.Branch.{Law, Branch}
-use Rattle.element_expansion.specs.Small.{AreSmallLaws, HaveSmallLaws}
-use Rattle.element_expansion.specs.Expansion.{to_ground, between}
+use Rattle.element_parts.specs.Small.{AreSmallLaws, HaveSmallLaws}
+use Rattle.element_parts.specs.Expansion.{to_ground, between}
 
 pub small_to_ground : (node owner : ℕ) (laws : List Law) → AreSmallLaws laws → HaveSmallLaws (map (λ law. to_ground node law owner) laws)
 small_to_ground node owner [] h = tt

@@ -4,8 +4,8 @@ use Rattle.std.proofs.lemmas.Int.{ints}
 use Rattle.std.specs.Prelude.{if◌then◌else◌}
 use Rattle.network_theory.specs.Branch.{Law, Branch}
 use Rattle.study_model.specs.Rules.{AreNotBothZero}
-use Rattle.element_expansion.specs.Expansion.{to_ground, between, law_where}
-use Rattle.element_expansion.specs.Plain.{IsPlainLaw, ArePlainLaws, ArePlain, IsPlainBranch}
+use Rattle.element_parts.specs.Expansion.{to_ground, between, law_where}
+use Rattle.element_parts.specs.Plain.{IsPlainLaw, ArePlainLaws, ArePlain, IsPlainBranch}
 
 -- a product that is 0, of a number and one above 0
 factor_zero : (z s : ℤ) → pos 1 ≤ℤ s → z *ℤ s ≡ pos 0 → z ≡ pos 0

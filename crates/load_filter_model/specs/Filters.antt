@@ -1,14 +1,40 @@
 -- Filters as branches.
-use Rattle.std.specs.Prelude.{ℕ, ℤ, pos, List, [], ◌∷◌, map, if◌then◌else◌}
-use Rattle.exact_algebra.specs.Ratio.{Ratio, whole}
+use Rattle.std.specs.Prelude.{ℕ, ◌*◌, ◌^◌, ℤ, pos, ◌*ℤ◌, ◌-ℤ◌, unsigned_abs, List, [], ◌∷◌, map, if◌then◌else◌}
+use Rattle.exact_algebra.specs.Ratio.{Ratio, whole, over}
 use Rattle.network_theory.specs.Branch.{Law, Series}
 use Rattle.study_model.specs.declared.words.Sequence.{Sequence}
 use Rattle.study_model.specs.declared.words.FilterKind.{FilterKind}
 use Rattle.study_model.specs.declared.words.FilterKind.TheVariants.{Single, HighPass, CType}
 use Rattle.study_model.specs.declared.records.Filter.{Filter}
 use Rattle.study_model.specs.declared.records.Study.{Study}
-use Rattle.element_expansion.specs.PerUnit.{impedance_of_rating, tuned_reactance, tuned_resistance, highpass_resistance, ctype_reactance, ctype_resistance}
-use Rattle.element_expansion.specs.Expansion.{Expansion, to_ground, between, grounded_at, series, open_circuit, is_present}
+use Rattle.element_parts.specs.PerUnit.{impedance_of_rating}
+use Rattle.element_parts.specs.Expansion.{Expansion, to_ground, between, grounded_at, series, open_circuit}
+use Rattle.load_filter_model.specs.Presence.{is_present}
+
+-- A filter of q MVAr is tuned to the order n and has the quality w. Its capacitor has the reactance xc = s/q.
+-- the reactance that is tuned with it, xc/n²: s·10^12/(q·n²)
+unfoldable pub tuned_reactance : ℤ → ℤ → ℤ → Ratio
+tuned_reactance q n s = over (s *ℤ pos (10 ^ 12)) (unsigned_abs q * unsigned_abs (n *ℤ n))
+
+-- the resistance of a single tuned filter, xc/(n·w): s·10^12/(q·n·w)
+unfoldable pub tuned_resistance : ℤ → ℤ → ℤ → ℤ → Ratio
+tuned_resistance q n w s = over (s *ℤ pos (10 ^ 12)) (unsigned_abs q * unsigned_abs (n *ℤ w))
+
+-- the resistance of a high-pass filter, w·xc/n: w·s/(q·n)
+unfoldable pub highpass_resistance : ℤ → ℤ → ℤ → ℤ → Ratio
+highpass_resistance q n w s = over (w *ℤ s) (unsigned_abs (q *ℤ n))
+
+-- n² - 1, in units of 10^-12
+abbrev pub above_fundamental : ℤ → ℤ
+above_fundamental n = n *ℤ n -ℤ pos (10 ^ 12)
+
+-- the reactance of a C-type filter, xc/(n² - 1): s·10^12/(q·(n² - 1))
+unfoldable pub ctype_reactance : ℤ → ℤ → ℤ → Ratio
+ctype_reactance q n s = over (s *ℤ pos (10 ^ 12)) (unsigned_abs q * unsigned_abs (above_fundamental n))
+
+-- the resistance of a C-type filter, w·n·xc/(n² - 1): w·n·s/(q·(n² - 1))
+unfoldable pub ctype_resistance : ℤ → ℤ → ℤ → ℤ → Ratio
+ctype_resistance q n w s = over (w *ℤ n *ℤ s) (unsigned_abs q * unsigned_abs (above_fundamental n))
 
 -- a resistance, a reactance and a capacitor in series, with no skin coefficients
 abbrev pub resonant : Ratio → Ratio → Ratio → Law

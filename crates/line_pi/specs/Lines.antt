@@ -6,8 +6,8 @@ use Rattle.study_model.specs.declared.words.Sequence.{Sequence}
 use Rattle.study_model.specs.declared.words.Sequence.TheVariants.{Positive, Zero}
 use Rattle.study_model.specs.declared.records.Line.{Line}
 use Rattle.study_model.specs.declared.records.Study.{Study}
-use Rattle.element_expansion.specs.PerUnit.{kv_of, as_written, impedance_share, susceptance_share}
-use Rattle.element_expansion.specs.Expansion.{Expansion, to_ground, between, open_circuit, law_where}
+use Rattle.element_parts.specs.PerUnit.{kv_of, as_written, impedance_share, susceptance_share}
+use Rattle.element_parts.specs.Expansion.{Expansion, to_ground, between, open_circuit, law_where}
 
 -- a section between two nodes: its impedance, then the laws of an end to ground at its near end and at its far end
 abbrev pub pi_section : Law → List Law → ℕ → ℕ → ℕ → List Branch

@@ -14,7 +14,7 @@ use Rattle.net_branch.specs.declared.network.Network.{Network}
 use Rattle.net_branch.specs.Exact.{exact_tap, exact_law, exact_branch}
 use Rattle.net_branch.specs.Refusal.{is_zero, is_zero_law, IsElement}
 use Rattle.net_branch.specs.Whole.{AreAtNodes}
-use Rattle.element_expansion.specs.Plain.{IsPlainLaw, IsPlainBranch, ArePlain}
+use Rattle.element_parts.specs.Plain.{IsPlainLaw, IsPlainBranch, ArePlain}
 
 -- a law other than zero
 all_three : (a b c : Bool) (A B C : Type 0) → (a ≡ true → A) → (b ≡ true → B) → (c ≡ true → C) → ¬ (A × B × C) → (a && (b && c)) ≡ false

@@ -4,9 +4,9 @@ ghost use Rattle.exact_fraction.specs.Fraction.{ratio_of};
 ghost use Rattle.net_branch.specs.Exact.{exact_law, exact_branch};
 ghost use Rattle.exact_algebra.specs.Ratio.{whole};
 ghost use Rattle.network_theory.specs.Branch.{Series};
-ghost use Rattle.element_expansion.specs.PerUnit.{as_written};
-ghost use Rattle.element_expansion.specs.Expansion.{to_ground, between, series};
-ghost use Rattle.element_expansion.specs.Small.{IsSmall, IsSmallLaw};
+ghost use Rattle.element_parts.specs.PerUnit.{as_written};
+ghost use Rattle.element_parts.specs.Expansion.{to_ground, between, series};
+ghost use Rattle.element_parts.specs.Small.{IsSmall, IsSmallLaw};
 
 use crate::per_unit::{as_written, zero};
 use exact_fraction::Fraction;

@@ -3,8 +3,8 @@ ghost use Rattle.std.specs.Prelude.{◌≡◌, ◌≢◌, ◌+◌, map, IsTrue, 
 ghost use Rattle.net_branch.specs.Exact.{exact_branch, exact_network};
 ghost use Rattle.net_branch.specs.Whole.{IsWholeNetwork};
 ghost use Rattle.net_branch.specs.declared.fault.AddFault.TheVariants.{NoMemory};
-ghost use Rattle.element_expansion.specs.Expansion.{with_element, is_too_large};
-ghost use Rattle.element_expansion.specs.Plain.{ArePlain};
+ghost use Rattle.element_parts.specs.Expansion.{with_element, is_too_large};
+ghost use Rattle.element_parts.specs.Plain.{ArePlain};
 
 use net_branch::{AddFault, Branch, Network, append_element};
 use sqlite_items::Items;
@@ -17,8 +17,8 @@ pub struct Parts {
     pub branches: Items<Branch>,
 }
 
-/// Adds an element of so many inner nodes and these uncoupled branches. `TooMany` exactly where the network would have more than 120
-/// nodes or more than 800 branches. A refusal leaves the network as it was.
+/// Adds an element of so many inner nodes and these uncoupled branches. `TooMany` exactly where the network would have more than
+/// `MAX_NODES` nodes or more than `MAX_BRANCHES` branches. A refusal leaves the network as it was.
 #[tactic(auto, using(crate::proofs::PlainElements::plain_element))]
 pub fn add_plain(
     alloc: Global,

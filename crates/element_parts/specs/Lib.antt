@@ -3,6 +3,3 @@ pub mod Small
 pub mod Plain
 pub mod Expansion
 pub mod Parts
-pub mod Lines
-pub mod Transformers
-pub mod Filters
