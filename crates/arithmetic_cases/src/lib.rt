@@ -1,0 +1,9 @@
+// Worked values of the fractions, the intervals and the decimals, by the public calls.
+#![tactic(auto)]
+
+#[cfg(test)]
+mod decimals;
+#[cfg(test)]
+mod fractions;
+#[cfg(test)]
+mod intervals;
