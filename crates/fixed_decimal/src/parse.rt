@@ -1,5 +1,6 @@
 // Decimals from their text and from whole numbers.
-ghost use Rattle.std.specs.Prelude.{pos, ◌≡◌, ◌≤◌, ◌<◌, ◌^◌, ◌*◌, ◌-◌, ◌+◌, List, ℕ, length, min};
+ghost use Rattle.std.specs.Prelude.{pos, ◌≡◌, ◌≤◌, ◌<◌, ◌^◌, ◌*◌, ◌-◌, ◌+◌, List, ℕ, length, min, true};
+ghost use Rattle.std.specs.Result.{result_ok};
 ghost use Rattle.std.specs.List.{prefix_len};
 ghost use Rattle.std.specs.Char.{is_ascii_digit};
 ghost use Rattle.fixed_decimal.specs.Parsed.{number, AreDigits, parts_of, with_digits, is_decimal, decimal_in, decimal_of, whole_decimal_of};
@@ -106,17 +107,13 @@ impl Parts<'_> {
         !self.whole.is_empty() && (!self.pointed || !self.places.is_empty()) && self.rest.is_empty()
     }
 
-    /// The decimal of the parts of a text of this length.
-    fn decimal(&self, len: usize) -> Result<Decimal, DecimalFault>
+    /// The decimal of parts in the grammar, whatever the length of their text.
+    fn value(&self) -> Result<Decimal, DecimalFault>
         requires whole { AreDigits self.now.whole.now }
         requires places { AreDigits self.now.places.now }
-        requires rest { length self.now.rest.now ≤ len }
-        requires len { len < 2 ^ 32 }
-        ensures { result ≡ decimal_in len (parts_seen self.now) }
+        requires grammar { is_decimal (parts_seen self.now) ≡ true }
+        ensures { (len : ℕ) → result ≡ decimal_in len (parts_seen self.now) }
     {
-        if !self.is_decimal() {
-            return Err(DecimalFault::BadByte((len - self.rest.len()) as u32));
-        }
         if self.places.len() > 6 {
             return Err(DecimalFault::TooManyPlaces);
         }
@@ -128,6 +125,21 @@ impl Parts<'_> {
         Ok(Decimal {
             millionths: if self.negative { -size } else { size },
         })
+    }
+
+    /// The decimal of the parts of a text of this length.
+    fn decimal(&self, len: usize) -> Result<Decimal, DecimalFault>
+        requires whole { AreDigits self.now.whole.now }
+        requires places { AreDigits self.now.places.now }
+        requires rest { length self.now.rest.now ≤ len }
+        requires len { len < 2 ^ 32 }
+        ensures { result ≡ decimal_in len (parts_seen self.now) }
+    {
+        if self.is_decimal() {
+            self.value()
+        } else {
+            Err(DecimalFault::BadByte((len - self.rest.len()) as u32))
+        }
     }
 }
 
@@ -143,6 +155,18 @@ impl Decimal {
             return Err(DecimalFault::Empty);
         }
         parts_of(text.as_bytes()).decimal(text.len())
+    }
+
+    /// The decimal of a text of any length, where `parse` has no fault of it.
+    #[tactic(auto, unfolding(crate::specs::Parsed::decimal_of))]
+    pub fn from_text(text: &str) -> Option<Decimal>
+        ensures { result ≡ result_ok (decimal_of text.now) }
+    {
+        let parts = parts_of(text.as_bytes());
+        if text.is_empty() || !parts.is_decimal() {
+            return None;
+        }
+        parts.value().ok()
     }
 
     /// The decimal of a whole number.

@@ -1,30 +1,54 @@
 -- The elements of a study by their numbers, and all names.
 use Rattle.std.specs.Prelude.{ℕ, ◌-◌, ◌≤◌, List, [], ◌∷◌, ◌++◌, map, slice_get, Contains, IsSomeAnd}
+use Rattle.study_model.specs.declared.records.Source.{Source}
+use Rattle.study_model.specs.declared.records.Line.{Line}
+use Rattle.study_model.specs.declared.records.Transformer.{Transformer}
+use Rattle.study_model.specs.declared.records.Load.{Load}
+use Rattle.study_model.specs.declared.records.Bank.{Bank}
+use Rattle.study_model.specs.declared.records.Filter.{Filter}
 use Rattle.study_model.specs.declared.records.Study.{Study}
 
--- The buses that each element touches. Elements are numbered from 1 over sources, lines, transformers, loads, banks and filters.
-abbrev pub terminals : Study → List (List ℕ)
-terminals study = map (λ source. source.bus ∷ []) study.sources
-    ++ map (λ line. line.from ∷ line.to ∷ []) study.lines
-    ++ map (λ transformer. transformer.from ∷ transformer.to ∷ []) study.transformers
-    ++ map (λ load. load.bus ∷ []) study.loads
-    ++ map (λ bank. bank.bus ∷ []) study.banks
-    ++ map (λ filter. filter.bus ∷ []) study.filters
+-- an element of a study
+pub data StudyElement : Type 0 where
+  of_source : Source → StudyElement
+  of_line : Line → StudyElement
+  of_transformer : Transformer → StudyElement
+  of_load : Load → StudyElement
+  of_bank : Bank → StudyElement
+  of_filter : Filter → StudyElement
 
--- the names of the elements, in the same order
-abbrev pub element_names : Study → List (List ℕ)
-element_names study = map (λ source. source.name) study.sources
-    ++ map (λ line. line.name) study.lines
-    ++ map (λ transformer. transformer.name) study.transformers
-    ++ map (λ load. load.name) study.loads
-    ++ map (λ bank. bank.name) study.banks
-    ++ map (λ filter. filter.name) study.filters
+-- the elements of these sections, section by section
+abbrev pub elements_in : List Source → List Line → List Transformer → List Load → List Bank → List Filter → List StudyElement
+elements_in sources lines transformers loads banks filters =
+    map of_source sources ++ (map of_line lines ++ (map of_transformer transformers ++ (map of_load loads ++ (map of_bank banks ++ map of_filter filters))))
 
--- the names of all entries
-abbrev pub names_of : Study → List (List ℕ)
-names_of study = map (λ bus. bus.name) study.buses ++ element_names study
-    ++ map (λ scan. scan.name) study.scans ++ map (λ point. point.name) study.points
+-- The elements of a study. The number of an element is its place among them, from 1.
+abbrev pub elements_of : Study → List StudyElement
+elements_of study = elements_in study.sources study.lines study.transformers study.loads study.banks study.filters
+
+-- the name of an element
+abbrev pub element_name : StudyElement → List ℕ
+element_name (of_source e) = e.name
+element_name (of_line e) = e.name
+element_name (of_transformer e) = e.name
+element_name (of_load e) = e.name
+element_name (of_bank e) = e.name
+element_name (of_filter e) = e.name
+
+-- the buses that an element touches
+abbrev pub element_buses : StudyElement → List ℕ
+element_buses (of_source e) = e.bus ∷ []
+element_buses (of_line e) = e.from ∷ e.to ∷ []
+element_buses (of_transformer e) = e.from ∷ e.to ∷ []
+element_buses (of_load e) = e.bus ∷ []
+element_buses (of_bank e) = e.bus ∷ []
+element_buses (of_filter e) = e.bus ∷ []
 
 -- the element of this number touches the bus
 abbrev pub Touches : Study → ℕ → ℕ → Type 0
-Touches study element bus = (1 ≤ element) × IsSomeAnd (slice_get (terminals study) (element - 1)) (λ buses. Contains buses bus)
+Touches study number bus = (1 ≤ number) × IsSomeAnd (slice_get (elements_of study) (number - 1)) (λ e. Contains (element_buses e) bus)
+
+-- the names of all entries
+abbrev pub names_of : Study → List (List ℕ)
+names_of study = map (λ bus. bus.name) study.buses ++ map element_name (elements_of study)
+    ++ map (λ scan. scan.name) study.scans ++ map (λ point. point.name) study.points

@@ -1,6 +1,8 @@
 // Why a study is refused, and where.
 ghost use Rattle.std.specs.Prelude.{◌≡◌};
 
+use thiserror::Error;
+
 /// A section of a study, with the whole file and the networks beside them.
 #[derive(Clone, Copy, Debug, PartialEq, Eq)]
 pub enum Section {
@@ -164,45 +166,64 @@ pub struct Place {
 }
 
 /// Why a study is refused, in the order of the numbers, and the want of memory, which has none.
-#[derive(Clone, Copy, Debug, PartialEq, Eq)]
+#[derive(Clone, Copy, Debug, PartialEq, Eq, Error)]
 pub enum StudyFault {
     /// The bytes are no TOML document.
+    #[error("the bytes are no TOML document")]
     NotToml,
     /// `version` is a whole number other than 1.
+    #[error("the version is not 1")]
     VersionUnknown,
     /// A required key, section or entry is absent.
+    #[error("a required key, section or entry is absent")]
     MissingKey(Place),
     /// The entry has a key that doesn't belong there.
+    #[error("a key does not belong there")]
     UnknownKey(Place),
     /// The value is of another kind, or a word isn't in its list.
+    #[error("the value is of another kind, or its word is not in the list")]
     WrongKind(Place),
     /// A decimal is written as a bare float.
+    #[error("a decimal is written without quotes")]
     BareDecimal(Place),
     /// A decimal isn't in the grammar, or is too long or too large.
+    #[error("the text is no decimal, or too long or too large a one")]
     BadDecimal(Place),
     /// The value is outside its range, or breaks a rule on two keys.
+    #[error("the value is outside its range, or breaks a rule on two keys")]
     OutOfRange(Place),
     /// A name isn't 1 to 32 bytes of letters, digits and `_ . -`.
+    #[error("the name is not 1 to 32 of the bytes that a name may have")]
     BadName(Place),
     /// An earlier entry of any section has the name.
+    #[error("an earlier entry has the name")]
     DuplicateName(Place),
     /// No bus has the name.
+    #[error("no bus has the name")]
     UnknownBus(Place),
     /// A section, or a network, passes its limit.
+    #[error("a section or a network passes its limit")]
     TooMany(Place),
     /// `to` isn't above `from`, or `locate` is below `finest`.
+    #[error("the ends or the widths of the band are not in order")]
     BadBand(Place),
     /// The band is more than 65,536 finest widths.
+    #[error("the band is too many finest widths wide")]
     TooFine(Place),
     /// A bus has no path to ground.
+    #[error("a bus has no path to ground")]
     Floating(Place),
     /// A bus of a phase network has no path to ground in the zero network.
+    #[error("a bus of a phase network has no path to ground in the zero network")]
     PhaseFloating(Place),
     /// A form that isn't built yet.
+    #[error("the study is of a form that is not built yet")]
     NotBuilt(Place),
     /// No element of the name touches the bus.
+    #[error("no element of the name touches the bus")]
     UnknownElement(Place),
     /// Memory ran out.
+    #[error("memory ran out")]
     NoMemory,
 }
 

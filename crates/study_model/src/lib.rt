@@ -10,7 +10,10 @@ mod words;
 mod worked;
 
 pub use fault::{Key, Place, Section, StudyFault};
-pub use limits::{MAX_BUSES, MAX_ELEMENTS, MAX_POINTS, MAX_SCANS, MAX_SECTIONS, MAX_WIDTHS};
+pub use limits::{
+    MAX_ALL_ELEMENTS, MAX_BUSES, MAX_ELEMENTS, MAX_NAMES, MAX_POINTS, MAX_SCANS, MAX_SECTIONS,
+    MAX_WIDTHS,
+};
 pub use name::{MAX_NAME_LEN, Name};
 pub use range::Range;
 pub use records::{Bank, Bus, Filter, Line, Load, Pcc, ScanItem, Source, Study, Transformer};

@@ -6,6 +6,9 @@ pub const MAX_BUSES: u32 = 60;
 /// The most sources of a study, and so of lines, transformers, loads, banks and filters.
 pub const MAX_ELEMENTS: u32 = 200;
 
+/// The most elements of a study, in its six sections of them.
+pub const MAX_ALL_ELEMENTS: u32 = 6 * MAX_ELEMENTS;
+
 /// The most scans of a study.
 pub const MAX_SCANS: u32 = 16;
 
@@ -17,3 +20,6 @@ pub const MAX_SECTIONS: u32 = 64;
 
 /// The most finest widths of a scan's band.
 pub const MAX_WIDTHS: u32 = 65_536;
+
+/// The most names of a study: each entry of its sections has one.
+pub const MAX_NAMES: u32 = MAX_BUSES + MAX_ALL_ELEMENTS + MAX_SCANS + MAX_POINTS;

@@ -1,5 +1,6 @@
 pub mod Counts
 pub mod Rules
 pub mod Fresh
+pub mod PlantElements
 pub mod Parts
 pub mod Refusals

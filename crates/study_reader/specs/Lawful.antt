@@ -1,16 +1,11 @@
 -- What holds of the parts of a study that are read.
 use Rattle.std.specs.Prelude.{◌≡◌, ◌≢◌, ◌⊎◌, ◌≤◌, ◌-◌, ◌++◌, ℕ, List, map, length, slice_get, All, IsSomeAnd}
 use Rattle.study_model.specs.Range.{IsIn}
+use Rattle.study_model.specs.Elements.{elements_in, element_name}
 use Rattle.study_model.specs.Lawful.{IsName, IsBus, IsLawfulSource, IsLawfulLine, IsLawfulTransformer, IsLawfulLoad, IsLawfulBank, IsLawfulFilter}
 use Rattle.study_model.specs.declared.limits.TheConstants.{MAX_ELEMENTS}
 use Rattle.study_model.specs.declared.range.TheConstants.Range.{BASE_MVA, HERTZ, ROOT3, AMPERES}
 use Rattle.study_model.specs.declared.records.Bus.{Bus}
-use Rattle.study_model.specs.declared.records.Source.{Source}
-use Rattle.study_model.specs.declared.records.Line.{Line}
-use Rattle.study_model.specs.declared.records.Transformer.{Transformer}
-use Rattle.study_model.specs.declared.records.Load.{Load}
-use Rattle.study_model.specs.declared.records.Bank.{Bank}
-use Rattle.study_model.specs.declared.records.Filter.{Filter}
 use Rattle.study_model.specs.declared.records.Pcc.{Pcc}
 use Rattle.study_model.specs.declared.words.StudyModel.{StudyModel}
 use Rattle.study_reader.specs.declared.context.Context.{Context}
@@ -61,11 +56,6 @@ pub record IsLawfulPlant (model : StudyModel) (buses : List Bus) (plant : Plant)
   pub filters_count : length plant.filters ≤ MAX_ELEMENTS
   pub filters : All (IsLawfulFilter model buses) plant.filters
 
--- the names of the elements, in the order of their sections
+-- the names of the elements, in the order of their numbers
 abbrev pub names_in : Plant → List (List ℕ)
-names_in plant = map (λ (e : Source). e.name) plant.sources
-    ++ map (λ (e : Line). e.name) plant.lines
-    ++ map (λ (e : Transformer). e.name) plant.transformers
-    ++ map (λ (e : Load). e.name) plant.loads
-    ++ map (λ (e : Bank). e.name) plant.banks
-    ++ map (λ (e : Filter). e.name) plant.filters
+names_in plant = map element_name (elements_in plant.sources plant.lines plant.transformers plant.loads plant.banks plant.filters)

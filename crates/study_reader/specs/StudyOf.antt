@@ -3,18 +3,13 @@ use Rattle.std.specs.Prelude.{◌≡◌, ℕ, true, false, List, [], ◌∷◌, 
 use Rattle.std.specs.Str.{IsUtf8}
 use Rattle.toml.specs.Data.{Data, Members, table}
 use Rattle.toml.specs.Parse.{parse_document}
+use Rattle.study_model.specs.Elements.{StudyElement, of_source, of_line, of_transformer, of_load, of_bank, of_filter, elements_in}
 use Rattle.study_model.specs.declared.limits.TheConstants.{MAX_BUSES, MAX_ELEMENTS, MAX_SCANS, MAX_POINTS}
 use Rattle.study_model.specs.declared.fault.Section.{Section}
 use Rattle.study_model.specs.declared.fault.Section.TheVariants as section
 use Rattle.study_model.specs.declared.fault.Key.TheVariants as key
 use Rattle.study_model.specs.declared.fault.StudyFault.{StudyFault}
 use Rattle.study_model.specs.declared.fault.StudyFault.TheVariants.{NotToml, UnknownKey}
-use Rattle.study_model.specs.declared.records.Source.{Source}
-use Rattle.study_model.specs.declared.records.Line.{Line}
-use Rattle.study_model.specs.declared.records.Transformer.{Transformer}
-use Rattle.study_model.specs.declared.records.Load.{Load}
-use Rattle.study_model.specs.declared.records.Bank.{Bank}
-use Rattle.study_model.specs.declared.records.Filter.{Filter}
 use Rattle.study_model.specs.declared.records.Study.{Study}
 use Rattle.study_reader.specs.Checks.{first_fault, place_of, unless}
 use Rattle.study_reader.specs.Header.{study_section_fault, study_section_value}
@@ -77,34 +72,25 @@ plant_value context document = record {
   filters = section_value (filter_entry context) section.Filter document;
 }
 
--- the elements of a plant in the order of their sections
+-- an element as a point finds it: its name, and the buses at its ends
 abbrev pub at_bus : List ℕ → ℕ → Element
 at_bus name bus = record { name = name; from = bus; to = bus }
 
-unfoldable pub source_elements : Plant → List Element
-source_elements plant = map (λ (e : Source). at_bus e.name e.bus) plant.sources
+abbrev pub ends_of : StudyElement → Element
+ends_of (of_source e) = at_bus e.name e.bus
+ends_of (of_line e) = record { name = e.name; from = e.from; to = e.to }
+ends_of (of_transformer e) = record { name = e.name; from = e.from; to = e.to }
+ends_of (of_load e) = at_bus e.name e.bus
+ends_of (of_bank e) = at_bus e.name e.bus
+ends_of (of_filter e) = at_bus e.name e.bus
 
-unfoldable pub line_elements : Plant → List Element
-line_elements plant = map (λ (e : Line). record { name = e.name; from = e.from; to = e.to }) plant.lines
-
-unfoldable pub transformer_elements : Plant → List Element
-transformer_elements plant = map (λ (e : Transformer). record { name = e.name; from = e.from; to = e.to }) plant.transformers
-
-unfoldable pub load_elements : Plant → List Element
-load_elements plant = map (λ (e : Load). at_bus e.name e.bus) plant.loads
-
-unfoldable pub bank_elements : Plant → List Element
-bank_elements plant = map (λ (e : Bank). at_bus e.name e.bus) plant.banks
-
-unfoldable pub filter_elements : Plant → List Element
-filter_elements plant = map (λ (e : Filter). at_bus e.name e.bus) plant.filters
-
-unfoldable pub elements_of : Plant → List Element
-elements_of plant = source_elements plant ++ line_elements plant ++ transformer_elements plant ++ load_elements plant ++ bank_elements plant ++ filter_elements plant
+-- the elements of a plant, in the order of their numbers
+unfoldable pub plant_elements : Plant → List Element
+plant_elements plant = map ends_of (elements_in plant.sources plant.lines plant.transformers plant.loads plant.banks plant.filters)
 
 -- what the points are read beside
 unfoldable pub with_elements : Context → Plant → Context
-with_elements context plant = record { model = context.model; buses = context.buses; elements = elements_of plant }
+with_elements context plant = record { model = context.model; buses = context.buses; elements = plant_elements plant }
 
 -- the checks of the sections in order
 unfoldable pub sections_fault : Data → Option StudyFault

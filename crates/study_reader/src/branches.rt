@@ -1,5 +1,5 @@
 // The entries of lines and transformers.
-ghost use Rattle.std.specs.Prelude.{◌≡◌, ◌≢◌, ◌<◌, ◌≤ℤ◌, ◌^◌, pos, false, length, IfOk, OnOk};
+ghost use Rattle.std.specs.Prelude.{◌≡◌, ◌≤◌, ◌≢◌, ◌≤ℤ◌, pos, false, length, IfOk, OnOk};
 ghost use Rattle.toml.specs.View.{view};
 ghost use Rattle.study_reader.specs.Checks.{Reads, word_fault};
 ghost use Rattle.study_model.specs.ValueWords.{connection_of};
@@ -9,6 +9,7 @@ ghost use Rattle.study_model.specs.Lawful.{IsName, IsBus, HaveEqualKv, IsLawfulL
 ghost use Rattle.study_model.specs.declared.range.TheConstants.Range.{ORDINARY, BASE_MVA, RESISTANCE_PERCENT, REACTANCE_PERCENT, RATIO};
 ghost use Rattle.study_reader.specs.Lawful.{IsFresh};
 ghost use Rattle.study_reader.specs.Branches.{kv_at, line_ends_fault, at_most_fault, has_mutual, mutual_fault, mutuals, line_front_fault, line_entry_fault, line_entry as line_of, ends, ends_fault, rating_fault, rating, is_grounded, connection_at, neutral_fault, neutral, transformer_front_fault, transformer_entry_fault, transformer_entry as transformer_of};
+ghost use Rattle.study_model.specs.declared.limits.TheConstants.{MAX_NAMES, MAX_BUSES};
 
 use crate::context::Context;
 use crate::decimals::{decimal, decimal_or, optional_decimal, sections};
@@ -106,8 +107,8 @@ fn line_front(
     earlier: &[Name],
     context: &Context,
 ) -> Result<Ends, StudyFault>
-    requires earlier { length earlier.now < 2 ^ 32 }
-    requires buses { length context.now.buses < 2 ^ 32 }
+    requires earlier { length earlier.now ≤ MAX_NAMES }
+    requires buses { length context.now.buses ≤ MAX_BUSES }
     ensures name { IfOk result (λ e. IsName e.name) }
     ensures fresh { IfOk result (λ e. IsFresh earlier.now e.name) }
     ensures from { IfOk result (λ e. IsBus context.now.buses e.from) }
@@ -147,8 +148,8 @@ pub(crate) fn line_entry(
     earlier: &[Name],
     context: &Context,
 ) -> Result<Line, StudyFault>
-    requires earlier { length earlier.now < 2 ^ 32 }
-    requires buses { length context.now.buses < 2 ^ 32 }
+    requires earlier { length earlier.now ≤ MAX_NAMES }
+    requires buses { length context.now.buses ≤ MAX_BUSES }
     ensures lawful { IfOk result (IsLawfulLine context.now.model context.now.buses) }
     ensures fresh { IfOk result (λ e. IsFresh earlier.now e.name) }
     ensures read { Reads result (line_entry_fault context.now earlier.now place (view entry.now)) (line_of context.now (view entry.now)) }
@@ -267,8 +268,8 @@ fn transformer_front(
     earlier: &[Name],
     context: &Context,
 ) -> Result<Ends, StudyFault>
-    requires earlier { length earlier.now < 2 ^ 32 }
-    requires buses { length context.now.buses < 2 ^ 32 }
+    requires earlier { length earlier.now ≤ MAX_NAMES }
+    requires buses { length context.now.buses ≤ MAX_BUSES }
     ensures name { IfOk result (λ e. IsName e.name) }
     ensures fresh { IfOk result (λ e. IsFresh earlier.now e.name) }
     ensures from { IfOk result (λ e. IsBus context.now.buses e.from) }
@@ -308,8 +309,8 @@ pub(crate) fn transformer_entry(
     earlier: &[Name],
     context: &Context,
 ) -> Result<Transformer, StudyFault>
-    requires earlier { length earlier.now < 2 ^ 32 }
-    requires buses { length context.now.buses < 2 ^ 32 }
+    requires earlier { length earlier.now ≤ MAX_NAMES }
+    requires buses { length context.now.buses ≤ MAX_BUSES }
     ensures lawful { IfOk result (IsLawfulTransformer context.now.buses) }
     ensures fresh { IfOk result (λ e. IsFresh earlier.now e.name) }
     ensures read { Reads result (transformer_entry_fault context.now earlier.now place (view entry.now)) (transformer_of context.now (view entry.now)) }

@@ -1,5 +1,5 @@
 // The entries of buses, sources, banks, filters and scans.
-ghost use Rattle.std.specs.Prelude.{◌≡◌, ◌<◌, ◌≤ℤ◌, ◌<ℤ◌, ◌-ℤ◌, ◌*ℤ◌, ◌^◌, pos, length, IfOk, OnOk};
+ghost use Rattle.std.specs.Prelude.{◌≡◌, ◌≤◌, ◌<◌, ◌≤ℤ◌, ◌<ℤ◌, ◌-ℤ◌, ◌*ℤ◌, pos, length, IfOk, OnOk};
 ghost use Rattle.toml.specs.View.{view};
 ghost use Rattle.study_model.specs.Range.{IsIn};
 ghost use Rattle.study_model.specs.Rules.{IsScanned};
@@ -8,6 +8,7 @@ ghost use Rattle.study_model.specs.declared.range.TheConstants.Range.{BAND, ABOV
 ghost use Rattle.study_reader.specs.Checks.{Reads};
 ghost use Rattle.study_reader.specs.Entries.{bus_entry_fault, bus_entry as bus_of, source_entry_fault, source_entry as source_of, bank_entry_fault, bank_entry as bank_of, filter_entry_fault, filter_entry as filter_of, scanned_fault, scanned, upwards_fault, widths_fault, locate_fault, band_fault, band, scan_entry_fault, scan_entry as scan_of};
 ghost use Rattle.study_reader.specs.Lawful.{IsFresh};
+ghost use Rattle.study_model.specs.declared.limits.TheConstants.{MAX_NAMES, MAX_BUSES};
 
 use crate::context::Context;
 use crate::decimals::{decimal, decimal_or};
@@ -28,7 +29,7 @@ pub(crate) fn bus_entry(
     earlier: &[Name],
     context: &Context,
 ) -> Result<Bus, StudyFault>
-    requires { length earlier.now < 2 ^ 32 }
+    requires { length earlier.now ≤ MAX_NAMES }
     ensures lawful { IfOk result IsLawfulBus }
     ensures fresh { IfOk result (λ e. IsFresh earlier.now e.name) }
     ensures read { Reads result (bus_entry_fault context.now earlier.now place (view entry.now)) (bus_of context.now (view entry.now)) }
@@ -47,8 +48,8 @@ pub(crate) fn source_entry(
     earlier: &[Name],
     context: &Context,
 ) -> Result<Source, StudyFault>
-    requires earlier { length earlier.now < 2 ^ 32 }
-    requires buses { length context.now.buses < 2 ^ 32 }
+    requires earlier { length earlier.now ≤ MAX_NAMES }
+    requires buses { length context.now.buses ≤ MAX_BUSES }
     ensures lawful { IfOk result (IsLawfulSource context.now.buses) }
     ensures fresh { IfOk result (λ e. IsFresh earlier.now e.name) }
     ensures read { Reads result (source_entry_fault context.now earlier.now place (view entry.now)) (source_of context.now (view entry.now)) }
@@ -88,8 +89,8 @@ pub(crate) fn bank_entry(
     earlier: &[Name],
     context: &Context,
 ) -> Result<Bank, StudyFault>
-    requires earlier { length earlier.now < 2 ^ 32 }
-    requires buses { length context.now.buses < 2 ^ 32 }
+    requires earlier { length earlier.now ≤ MAX_NAMES }
+    requires buses { length context.now.buses ≤ MAX_BUSES }
     ensures lawful { IfOk result (IsLawfulBank context.now.model context.now.buses) }
     ensures fresh { IfOk result (λ e. IsFresh earlier.now e.name) }
     ensures read { Reads result (bank_entry_fault context.now earlier.now place (view entry.now)) (bank_of context.now (view entry.now)) }
@@ -211,8 +212,8 @@ pub(crate) fn scan_entry(
     earlier: &[Name],
     context: &Context,
 ) -> Result<ScanItem, StudyFault>
-    requires earlier { length earlier.now < 2 ^ 32 }
-    requires buses { length context.now.buses < 2 ^ 32 }
+    requires earlier { length earlier.now ≤ MAX_NAMES }
+    requires buses { length context.now.buses ≤ MAX_BUSES }
     ensures lawful { IfOk result (IsLawfulScan context.now.model context.now.buses) }
     ensures fresh { IfOk result (λ e. IsFresh earlier.now e.name) }
     ensures read { Reads result (scan_entry_fault context.now earlier.now place (view entry.now)) (scan_of context.now (view entry.now)) }
@@ -254,8 +255,8 @@ pub(crate) fn filter_entry(
     earlier: &[Name],
     context: &Context,
 ) -> Result<Filter, StudyFault>
-    requires earlier { length earlier.now < 2 ^ 32 }
-    requires buses { length context.now.buses < 2 ^ 32 }
+    requires earlier { length earlier.now ≤ MAX_NAMES }
+    requires buses { length context.now.buses ≤ MAX_BUSES }
     ensures lawful { IfOk result (IsLawfulFilter context.now.model context.now.buses) }
     ensures fresh { IfOk result (λ e. IsFresh earlier.now e.name) }
     ensures read { Reads result (filter_entry_fault context.now earlier.now place (view entry.now)) (filter_of context.now (view entry.now)) }

@@ -1,5 +1,5 @@
 // An entry of a section, whatever its section is.
-ghost use Rattle.std.specs.Prelude.{◌≡◌, ◌<◌, ◌≤◌, ◌^◌, List, ℕ, Option, length, IfOk};
+ghost use Rattle.std.specs.Prelude.{◌≡◌, ◌≤◌, List, ℕ, Option, length, IfOk};
 ghost use Rattle.toml.specs.Data.{Data};
 ghost use Rattle.toml.specs.View.{view};
 ghost use Rattle.study_model.specs.declared.fault.Place.{Place as place_type};
@@ -12,6 +12,7 @@ ghost use Rattle.study_reader.specs.Entries.{bus_entry_fault, bus_entry, source_
 ghost use Rattle.study_reader.specs.Branches.{line_entry_fault, line_entry, transformer_entry_fault, transformer_entry};
 ghost use Rattle.study_reader.specs.Loads.{load_entry_fault, load_entry};
 ghost use Rattle.study_reader.specs.Points.{point_entry_fault, point_entry};
+ghost use Rattle.study_model.specs.declared.limits.TheConstants.{MAX_NAMES, MAX_BUSES, MAX_ALL_ELEMENTS};
 
 use crate::context::Context;
 use study_model::{
@@ -35,9 +36,9 @@ pub(crate) trait Entry: Copy {
         earlier: &[Name],
         context: &Context,
     ) -> Result<Self, StudyFault>
-        requires earlier { length earlier.now < 2 ^ 32 }
-        requires buses { length context.now.buses < 2 ^ 32 }
-        requires elements { length context.now.elements ≤ 100000 }
+        requires earlier { length earlier.now ≤ MAX_NAMES }
+        requires buses { length context.now.buses ≤ MAX_BUSES }
+        requires elements { length context.now.elements ≤ MAX_ALL_ELEMENTS }
         ensures lawful { IfOk result (lawful context.now) }
         ensures fresh { IfOk result (λ e. IsFresh earlier.now (name_in e)) }
         ensures read { Reads result (fault context.now earlier.now place (view entry.now)) (value context.now (view entry.now)) };

@@ -1,9 +1,10 @@
 // The keys of an entry, and its names.
-ghost use Rattle.std.specs.Prelude.{◌≡◌, ◌≢◌, ◌<◌, ◌≤◌, ◌^◌, false, length, option_map, IfOk, IfSome, IfNone, OnOk};
+ghost use Rattle.std.specs.Prelude.{◌≡◌, ◌≢◌, ◌<◌, ◌≤◌, false, length, option_map, IfOk, IfSome, IfNone, OnOk};
 ghost use Rattle.toml.specs.View.{view, table_view};
 ghost use Rattle.study_model.specs.Lawful.{IsName};
 ghost use Rattle.study_reader.specs.Lawful.{IsFresh};
 ghost use Rattle.study_reader.specs.Checks.{Reads, key_of, at, has, stray_fault, flag_fault, flag_value, name_at, bus_at, name_fault, name_value, reserved_fault, bus_fault, bus_value, is_listed, are_listed, keys_fault};
+ghost use Rattle.study_model.specs.declared.limits.TheConstants.{MAX_NAMES, MAX_BUSES};
 
 use study_model::{Bus, Key, Name, Place, StudyFault};
 use toml::{Table, Value};
@@ -71,7 +72,7 @@ pub(crate) fn flag(entry: &Value, place: Place, key: Key) -> Result<bool, StudyF
 
 /// The place of a name among names.
 fn place_of_name(names: &[Name], text: &[u8]) -> Option<u32>
-    requires { length names.now < 2 ^ 32 }
+    requires { length names.now ≤ MAX_NAMES }
     ensures place { result ≡ name_at 0 names.now text.now }
     ensures within { IfSome result (λ place. place < length names.now) }
     ensures fresh { IfNone result (IsFresh names.now text.now) }
@@ -89,7 +90,7 @@ fn place_of_name(names: &[Name], text: &[u8]) -> Option<u32>
 /// A name that no earlier entry has.
 #[tactic(auto, unfolding(crate::specs::Checks::name_fault, crate::specs::Checks::name_value))]
 pub(crate) fn name(entry: &Value, place: Place, earlier: &[Name]) -> Result<Name, StudyFault>
-    requires { length earlier.now < 2 ^ 32 }
+    requires { length earlier.now ≤ MAX_NAMES }
     ensures lawful { IfOk result IsName }
     ensures fresh { IfOk result (IsFresh earlier.now) }
     ensures read { Reads result (name_fault place earlier.now (view entry.now)) (name_value (view entry.now)) }
@@ -128,7 +129,7 @@ pub(crate) fn not_reserved(entry: &Value, place: Place, word: &str) -> Result<()
 
 /// The place of the bus of a name.
 fn place_of_bus(buses: &[Bus], text: &[u8]) -> Option<u32>
-    requires { length buses.now < 2 ^ 32 }
+    requires { length buses.now ≤ MAX_BUSES }
     ensures place { result ≡ bus_at 0 buses.now text.now }
     ensures within { IfSome result (λ place. place < length buses.now) }
 {
@@ -145,7 +146,7 @@ fn place_of_bus(buses: &[Bus], text: &[u8]) -> Option<u32>
 /// The number of the bus of a name.
 #[tactic(auto, unfolding(crate::specs::Checks::bus_fault, crate::specs::Checks::bus_value))]
 pub(crate) fn bus(entry: &Value, place: Place, key: Key, buses: &[Bus]) -> Result<u32, StudyFault>
-    requires { length buses.now < 2 ^ 32 }
+    requires { length buses.now ≤ MAX_BUSES }
     ensures within { IfOk result (λ number. number < length buses.now) }
     ensures read { Reads result (bus_fault place key buses.now (view entry.now)) (bus_value key buses.now (view entry.now)) }
 {

@@ -1,5 +1,5 @@
 // The entry of a load.
-ghost use Rattle.std.specs.Prelude.{◌≡◌, ◌<◌, ◌^◌, is_some, length, IfOk, IfSome};
+ghost use Rattle.std.specs.Prelude.{◌≡◌, ◌≤◌, is_some, length, IfOk, IfSome};
 ghost use Rattle.toml.specs.View.{view};
 ghost use Rattle.study_model.specs.Range.{IsIn};
 ghost use Rattle.study_model.specs.Lawful.{IsLawfulLoad};
@@ -8,6 +8,7 @@ ghost use Rattle.study_reader.specs.Lawful.{IsFresh};
 ghost use Rattle.study_reader.specs.Checks.{Reads, AreNotBothGivenZero};
 ghost use Rattle.study_reader.specs.Loads.{is_series, power_range, part_fault, parts_fault, part, load_entry_fault, load_entry as load_of};
 ghost use Rattle.study_reader.specs.Checks.{option_value};
+ghost use Rattle.study_model.specs.declared.limits.TheConstants.{MAX_NAMES, MAX_BUSES};
 
 use crate::context::Context;
 use crate::decimals::{not_both_zero, optional_decimal};
@@ -88,8 +89,8 @@ pub(crate) fn load_entry(
     earlier: &[Name],
     context: &Context,
 ) -> Result<Load, StudyFault>
-    requires earlier { length earlier.now < 2 ^ 32 }
-    requires buses { length context.now.buses < 2 ^ 32 }
+    requires earlier { length earlier.now ≤ MAX_NAMES }
+    requires buses { length context.now.buses ≤ MAX_BUSES }
     ensures lawful { IfOk result (IsLawfulLoad context.now.model context.now.buses) }
     ensures fresh { IfOk result (λ e. IsFresh earlier.now e.name) }
     ensures read { Reads result (load_entry_fault context.now earlier.now place (view entry.now)) (load_of context.now (view entry.now)) }

@@ -1,9 +1,10 @@
 // The entry of a point of common coupling.
-ghost use Rattle.std.specs.Prelude.{◌≡◌, ◌<◌, ◌≤◌, ◌+◌, ◌^◌, length, IfOk, IfSome};
+ghost use Rattle.std.specs.Prelude.{◌≡◌, ◌≤◌, length, IfOk, IfSome};
 ghost use Rattle.toml.specs.View.{view};
 ghost use Rattle.study_reader.specs.Checks.{Reads};
 ghost use Rattle.study_reader.specs.Lawful.{IsFresh, Reaches, IsLawfulPoint};
 ghost use Rattle.study_reader.specs.Points.{is_element, element_at, element_fault, element_value, point_entry_fault, point_entry as point_of};
+ghost use Rattle.study_model.specs.declared.limits.TheConstants.{MAX_NAMES, MAX_BUSES, MAX_ALL_ELEMENTS};
 
 use crate::context::{Context, Element};
 use crate::decimals::decimal;
@@ -20,7 +21,7 @@ fn is_element(text: &[u8], bus: u32, element: &Element) -> bool
 /// The number of the element of a name that touches a bus.
 #[tactic(auto, using(crate::proofs::Fresh::reaches))]
 fn place_of_element(elements: &[Element], text: &[u8], bus: u32) -> Option<u32>
-    requires { length elements.now ≤ 100000 }
+    requires { length elements.now ≤ MAX_ALL_ELEMENTS }
     ensures found { result ≡ element_at 1 elements.now text.now bus }
     ensures reaches { IfSome result (Reaches elements.now bus) }
 {
@@ -41,7 +42,7 @@ fn element_of(
     elements: &[Element],
     bus: u32,
 ) -> Result<u32, StudyFault>
-    requires { length elements.now ≤ 100000 }
+    requires { length elements.now ≤ MAX_ALL_ELEMENTS }
     ensures reaches { IfOk result (Reaches elements.now bus) }
     ensures read { Reads result (element_fault place elements.now bus (view entry.now)) (element_value elements.now bus (view entry.now)) }
 {
@@ -65,9 +66,9 @@ pub(crate) fn point_entry(
     earlier: &[Name],
     context: &Context,
 ) -> Result<Pcc, StudyFault>
-    requires earlier { length earlier.now < 2 ^ 32 }
-    requires buses { length context.now.buses < 2 ^ 32 }
-    requires elements { length context.now.elements ≤ 100000 }
+    requires earlier { length earlier.now ≤ MAX_NAMES }
+    requires buses { length context.now.buses ≤ MAX_BUSES }
+    requires elements { length context.now.elements ≤ MAX_ALL_ELEMENTS }
     ensures lawful { IfOk result (IsLawfulPoint context.now) }
     ensures fresh { IfOk result (λ e. IsFresh earlier.now e.name) }
     ensures read { Reads result (point_entry_fault context.now earlier.now place (view entry.now)) (point_of context.now (view entry.now)) }

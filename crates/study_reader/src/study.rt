@@ -1,5 +1,5 @@
 // A whole study.
-ghost use Rattle.std.specs.Prelude.{◌≡◌, ◌≢◌, ◌<◌, ◌+◌, ◌*◌, ◌^◌, ◌≤◌, ◌∷◌, [], ◌++◌, None, false, length, map, All, AllPairs, IfOk, IfErr, OnOk};
+ghost use Rattle.std.specs.Prelude.{◌≡◌, ◌≢◌, ◌+◌, ◌*◌, ◌≤◌, ◌∷◌, [], ◌++◌, None, false, length, map, All, AllPairs, IfOk, IfErr, OnOk};
 ghost use Rattle.toml.specs.Data.{table as table_data};
 ghost use Rattle.toml.specs.View.{view, items_view, table_view};
 ghost use Rattle.study_model.specs.declared.fault.StudyFault.TheVariants.{NoMemory};
@@ -8,7 +8,8 @@ ghost use Rattle.study_reader.specs.Built.{IsBuilt, unbuilt};
 ghost use Rattle.study_reader.specs.Lawful.{IsFresh, IsLawfulPlant, names_in};
 ghost use Rattle.study_reader.specs.Checks.{Reads, first_fault, name_value};
 ghost use Rattle.study_reader.specs.Sections.{entries_fault, entries_of, section_fault, section_value, section_names};
-ghost use Rattle.study_reader.specs.StudyOf.{at_most, some_buses, plant_fault, plant_names, plant_value, with_elements, elements_of, sections_fault, study_fault, study_value, IsStudy, Refused};
+ghost use Rattle.study_reader.specs.StudyOf.{at_most, some_buses, plant_fault, plant_names, plant_value, with_elements, plant_elements, sections_fault, study_fault, study_value, IsStudy, Refused};
+ghost use Rattle.study_model.specs.declared.limits.TheConstants.{MAX_NAMES, MAX_ALL_ELEMENTS};
 
 use crate::arrays::{Occurrence, are_sections, array};
 use crate::built::is_built;
@@ -50,11 +51,11 @@ fn entries<E: Entry>(
     context: &Context,
     names: &mut Vec<Name>,
 ) -> Result<Items<E>, StudyFault>
-    requires few { length values.now ≤ 1000 }
-    requires names { length names.old.items ≤ 10000 }
+    requires few { length values.now ≤ MAX_ELEMENTS }
+    requires names { length names.old.items + length values.now ≤ MAX_NAMES }
     requires distinct { AllPairs ◌≢◌ names.old.items }
-    requires buses { length context.now.buses < 2 ^ 32 }
-    requires elements { length context.now.elements ≤ 100000 }
+    requires buses { length context.now.buses ≤ MAX_BUSES }
+    requires elements { length context.now.elements ≤ MAX_ALL_ELEMENTS }
     ensures read { Reads result (entries_fault E.fault context.now section names.old.items 1 (items_view values.now))
         (entries_of (E.value context.now) (items_view values.now)) }
     ensures names { OnOk result (names.new.items ≡ names.old.items ++ entries_of name_value (items_view values.now)) }
@@ -87,11 +88,11 @@ fn section_entries<E: Entry>(
     context: &Context,
     names: &mut Vec<Name>,
 ) -> Result<Items<E>, StudyFault>
-    requires most { occurrence.most ≤ 1000 }
-    requires names { length names.old.items ≤ 10000 }
+    requires most { occurrence.most ≤ MAX_ELEMENTS }
+    requires names { length names.old.items + occurrence.most ≤ MAX_NAMES }
     requires distinct { AllPairs ◌≢◌ names.old.items }
-    requires buses { length context.now.buses < 2 ^ 32 }
-    requires elements { length context.now.elements ≤ 100000 }
+    requires buses { length context.now.buses ≤ MAX_BUSES }
+    requires elements { length context.now.elements ≤ MAX_ALL_ELEMENTS }
     ensures read { Reads result (section_fault E.fault occurrence context.now names.old.items (view document.now))
         (section_value (E.value context.now) occurrence.section (view document.now)) }
     ensures names { OnOk result (names.new.items ≡ names.old.items ++ section_names occurrence.section (view document.now)) }
@@ -149,14 +150,14 @@ fn plant_of(
     context: &Context,
     names: &mut Vec<Name>,
 ) -> Result<Plant, StudyFault>
-    requires names { length names.old.items ≤ 100 }
+    requires names { length names.old.items ≤ MAX_BUSES }
     requires distinct { AllPairs ◌≢◌ names.old.items }
-    requires buses { length context.now.buses < 2 ^ 32 }
-    requires elements { length context.now.elements ≤ 100000 }
+    requires buses { length context.now.buses ≤ MAX_BUSES }
+    requires elements { length context.now.elements ≤ MAX_ALL_ELEMENTS }
     ensures lawful { IfOk result (IsLawfulPlant context.now.model context.now.buses) }
     ensures distinct { OnOk result (AllPairs ◌≢◌ names.new.items) }
     ensures named { IfOk result (λ plant. names.new.items ≡ names.old.items ++ names_in plant) }
-    ensures few_names { length names.new.items ≤ length names.old.items + 6 * MAX_ELEMENTS }
+    ensures few_names { length names.new.items ≤ length names.old.items + MAX_ALL_ELEMENTS }
     ensures names { OnOk result (names.new.items ≡ plant_names names.old.items (view document.now)) }
     ensures read { Reads result (plant_fault context.now names.old.items (view document.now)) (plant_value context.now (view document.now)) }
 {
@@ -183,14 +184,16 @@ fn plant_of(
 }
 
 /// The context of the points of common coupling.
-#[tactic(auto, unfolding(crate::specs::StudyOf::with_elements))]
+#[tactic(auto, unfolding(crate::specs::StudyOf::with_elements), using(crate::proofs::PlantElements::counted))]
 fn with_elements(alloc: Global, context: Context, plant: &Plant) -> Result<Context, StudyFault>
     ensures few { IfOk result (λ whole. length whole.elements ≤ length plant.now.sources + length plant.now.lines + length plant.now.transformers
         + length plant.now.loads + length plant.now.banks + length plant.now.filters) }
-    ensures same { IfOk result (λ whole. whole ≡ record { model = context.model; buses = context.buses; elements = elements_of plant.now }) }
+    ensures same { IfOk result (λ whole. whole ≡ record { model = context.model; buses = context.buses; elements = plant_elements plant.now }) }
     ensures read { Reads result None (with_elements context plant.now) }
 {
-    let elements = elements_of(alloc, plant)?;
+    let Ok(elements) = elements_of(alloc, plant) else {
+        return Err(StudyFault::NoMemory);
+    };
     Ok(Context {
         model: context.model,
         buses: context.buses,
