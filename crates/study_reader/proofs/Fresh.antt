@@ -15,11 +15,11 @@ use Rattle.study_reader.specs.declared.context.Element.{Element}
 unequal : (x name : List ℕ) → bytes_eq x name ≡ false → x ≢ name
 unequal x name e same = let yes : bytes_eq x name ≡ true = (bytes_eq-Decides x name).1 same in absurd (cc)
 
-none_of : (t : Bool) (n : ℕ) (rest : Option ℕ) → (if t then Some n else rest) ≡ None → (t ≡ false) × (rest ≡ None)
+pub none_of : (t : Bool) (n : ℕ) (rest : Option ℕ) → (if t then Some n else rest) ≡ None → (t ≡ false) × (rest ≡ None)
 none_of true n rest e = absurd (cc)
 none_of false n rest e = (refl, e)
 
-some_of : (t : Bool) (n m : ℕ) (rest : Option ℕ) → (if t then Some n else rest) ≡ Some m → ((t ≡ true) × (n ≡ m)) ⊎ (rest ≡ Some m)
+pub some_of : (t : Bool) (n m : ℕ) (rest : Option ℕ) → (if t then Some n else rest) ≡ Some m → ((t ≡ true) × (n ≡ m)) ⊎ (rest ≡ Some m)
 some_of true n m rest e = inl (refl, cc)
 some_of false n m rest e = inr e
 

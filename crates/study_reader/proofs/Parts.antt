@@ -1,17 +1,170 @@
--- A lawful study, from its parts.
-use Rattle.std.proofs.Common.{◌≡◌, ◌≢◌, ◌≤◌, ◌-◌, ◌++◌, ⊎_elim, ℕ, zero, suc, map, List, [], ◌∷◌, length, refl, arith, subst, sym, All, AllPairs, Contains, IsSomeAnd, slice_get}
-use Rattle.study_model.specs.Elements.{StudyElement, of_source, of_line, of_transformer, of_load, of_bank, of_filter, elements_in, element_buses}
-use Rattle.study_model.specs.Lawful.{IsLawful, IsLawfulBus, IsLawfulScan, IsLawfulPcc}
-use Rattle.study_model.specs.declared.limits.TheConstants.{MAX_BUSES, MAX_SCANS, MAX_POINTS}
+-- A study whose checks find no fault is lawful.
+use Rattle.study_model.specs.ValueWords.{study_model_of}
+use Rattle.std.proofs.Common.{◌≡◌, ◌≢◌, ◌≤◌, ◌+◌, ◌-◌, ◌++◌, ◌⊎◌, ⊎_elim, ℕ, ℤ, pos, zero, suc, map, Bool, true, false, nat_le, List, [], ◌∷◌, Option, Some, None, length, refl, ap, arith, subst, sym, All, AllPairs, Contains, IsSomeAnd, slice_get, append_assoc}
+use Rattle.std.proofs.lemmas.Bool.Decides.{nat_tests}
+use Rattle.std.proofs.lemmas.Int.{ints}
+use Rattle.std.proofs.lemmas.List.{append-nil}
+use Rattle.std.proofs.lemmas.List.Elements.{All-cons, All-nil}
+use Rattle.toml.specs.Data.{Data, Items, no_items, item, string, integer, float, boolean, datetime, array, table}
+use Rattle.study_model.specs.Elements.{StudyElement, of_source, of_line, of_transformer, of_load, of_bank, of_filter, elements_of, element_buses}
+use Rattle.study_model.specs.Lawful.{IsLawful, IsLawfulBus, IsLawfulSource, IsLawfulLine, IsLawfulTransformer, IsLawfulLoad, IsLawfulBank, IsLawfulFilter, IsLawfulScan, IsLawfulPcc}
+use Rattle.study_model.specs.declared.fault.Place.{Place}
+use Rattle.study_model.specs.declared.fault.Section.{Section}
+use Rattle.study_model.specs.declared.fault.Section.TheVariants as section
+use Rattle.study_model.specs.declared.fault.Key.TheVariants as key
+use Rattle.study_model.specs.declared.fault.StudyFault.{StudyFault}
+use Rattle.study_model.specs.declared.fault.StudyFault.TheVariants.{MissingKey, TooMany}
+use Rattle.study_model.specs.declared.limits.TheConstants.{MAX_ELEMENTS, MAX_SCANS, MAX_POINTS}
+use Rattle.study_model.specs.declared.range.TheConstants.Range.{BASE_MVA, HERTZ, ROOT3}
 use Rattle.study_model.specs.declared.records.Bus.{Bus}
+use Rattle.study_model.specs.declared.records.Source.{Source}
+use Rattle.study_model.specs.declared.records.Line.{Line}
+use Rattle.study_model.specs.declared.records.Transformer.{Transformer}
+use Rattle.study_model.specs.declared.records.Load.{Load}
+use Rattle.study_model.specs.declared.records.Bank.{Bank}
+use Rattle.study_model.specs.declared.records.Filter.{Filter}
 use Rattle.study_model.specs.declared.records.ScanItem.{ScanItem}
 use Rattle.study_model.specs.declared.records.Pcc.{Pcc}
 use Rattle.study_model.specs.declared.records.Study.{Study}
-use Rattle.study_reader.specs.Lawful.{Ends, IsLawfulHeader, IsLawfulPoint, IsLawfulPlant, names_in}
-use Rattle.study_reader.specs.StudyOf.{ends_of, plant_elements}
+use Rattle.study_reader.specs.Built.{IsBuilt, unbuilt}
+use Rattle.study_reader.specs.Branches.{line_entry_fault, line_entry, transformer_entry_fault, transformer_entry, ends}
+use Rattle.study_reader.specs.Checks.{first_fault, unless, place_of, name_value, at, decimal_fault, default_fault, version_fault, scale_fault, word_fault, keys_fault}
+use Rattle.study_reader.specs.Entries.{bus_entry_fault, bus_entry, source_entry_fault, source_entry, bank_entry_fault, bank_entry, filter_entry_fault, filter_entry, scan_entry_fault, scan_entry}
+use Rattle.study_reader.specs.EntryNames.{bus_named, source_named, line_named, transformer_named, load_named, bank_named, filter_named, scan_named, point_named}
+use Rattle.study_reader.specs.Header.{header_fault, header_value, study_section_fault, study_section_value, built_method_of, study_keys}
+use Rattle.study_reader.specs.Lawful.{IsFresh, Ends, IsLawfulHeader, IsLawfulPoint, IsLawfulPlant, names_in}
+use Rattle.study_reader.specs.Loads.{load_entry_fault, load_entry}
+use Rattle.study_reader.specs.Points.{point_entry_fault, point_entry}
+use Rattle.study_reader.specs.Sections.{section_in, count_items, array_fault, items_in, entries_fault, entries_of, section_fault, section_value, section_names}
+use Rattle.study_reader.specs.StudyOf.{at_most, some_buses, before_buses, context_of, plant_fault, plant_names, plant_value, ends_of, plant_elements, with_elements, sections_fault, study_value}
+use Rattle.study_reader.specs.declared.arrays.Occurrence.{Occurrence}
 use Rattle.study_reader.specs.declared.context.Context.{Context}
-use Rattle.study_reader.specs.declared.header.Header.{Header}
 use Rattle.study_reader.specs.declared.study.Plant.{Plant}
+use Rattle.study_reader.proofs.Fresh.{distinct_push}
+use Rattle.study_reader.proofs.PlantElements.{named}
+use Rattle.study_reader.proofs.Sound.{no_fault, passed, decimal_sound, default_sound, scale_sound}
+use Rattle.study_reader.proofs.SoundEntries.{bus_lawful, source_lawful, line_lawful, transformer_lawful, load_lawful, bank_lawful, filter_lawful, scan_lawful, point_lawful}
+
+-- ---- a section
+at_most_of : (m n : ℕ) → nat_le m n ≡ true → m ≤ n
+at_most_of m n e = grind (arith, nat_tests)
+
+array_sound : (o : Occurrence) (v : Option Data) → array_fault o v ≡ None → (count_items (items_in v) ≤ o.most) × (o.optional ≡ false → o.least ≤ count_items (items_in v))
+array_sound o None e =
+    let optional = passed o.optional (MissingKey (place_of o.section 0 key.Nothing)) e in (omega arith, λ needed. absurd (cc (optional, needed)))
+array_sound o (Some (array ds)) e =
+    let place = place_of o.section 0 key.Nothing in
+    let n = count_items ds in
+    let checks = no_fault (unless (nat_le o.least n) (MissingKey place) ∷ unless (nat_le n o.most) (TooMany place) ∷ []) e in
+    (at_most_of n o.most (passed (nat_le n o.most) (TooMany place) (checks 1)), λ needed. at_most_of o.least n (passed (nat_le o.least n) (MissingKey place) (checks 0)))
+array_sound o (Some (string text)) e = absurd (cc)
+array_sound o (Some (integer n)) e = absurd (cc)
+array_sound o (Some (float x)) e = absurd (cc)
+array_sound o (Some (boolean b)) e = absurd (cc)
+array_sound o (Some (datetime t)) e = absurd (cc)
+array_sound o (Some (table ms)) e = absurd (cc)
+
+entries_sound : {A : Type 0} (fault : Context → List (List ℕ) → Place → Data → Option StudyFault) (value : Data → A) (lawful : A → Type 0) (context : Context) (at : Section)
+    → ((earlier : List (List ℕ)) (place : Place) (d : Data) → fault context earlier place d ≡ None → lawful (value d) × IsFresh earlier (name_value d))
+    → (earlier : List (List ℕ)) (n : ℕ) (items : Items) → entries_fault fault context at earlier n items ≡ None → AllPairs ◌≢◌ earlier
+    → All lawful (entries_of value items) × AllPairs ◌≢◌ (earlier ++ entries_of name_value items)
+entries_sound fault value lawful context at sound earlier n no_items e distinct = (All-nil lawful, subst (λ (ns : List (List ℕ)). AllPairs ◌≢◌ ns) (sym (append-nil earlier)) distinct)
+entries_sound fault value lawful context at sound earlier n (item d ds) e distinct =
+    let place = place_of at n key.Nothing in
+    let names = earlier ++ name_value d ∷ [] in
+    let checks = no_fault (fault context earlier place d ∷ entries_fault fault context at names (n + 1) ds ∷ []) e in
+    let entry = sound earlier place d (checks 0) in
+    let more = entries_sound fault value lawful context at sound names (n + 1) ds (checks 1) (distinct_push earlier (name_value d) distinct entry.1) in
+    (All-cons lawful (value d) (entries_of value ds) entry.0 more.0, subst (λ (ns : List (List ℕ)). AllPairs ◌≢◌ ns) (append_assoc earlier (name_value d ∷ []) (entries_of name_value ds)) more.1)
+
+items_counted : {A : Type 0} (value : Data → A) (items : Items) → length (entries_of value items) ≡ count_items items
+items_counted value no_items = refl
+items_counted value (item d ds) = omega (arith, items_counted value ds)
+
+entries_named : {A : Type 0} (value : Data → A) (name_in : A → List ℕ) → ((d : Data) → name_in (value d) ≡ name_value d) → (items : Items)
+    → entries_of name_value items ≡ map name_in (entries_of value items)
+entries_named value name_in is no_items = refl
+entries_named value name_in is (item d ds) = rw (is d, entries_named value name_in is ds) refl
+
+-- the entries of a section, beside the names before them
+record IsSound {A : Type 0} (lawful : A → Type 0) (name_in : A → List ℕ) (o : Occurrence) (earlier : List (List ℕ)) (made : List A) (names : List (List ℕ)) : Type 0 where
+  all : All lawful made
+  few : length made ≤ o.most
+  enough : o.optional ≡ false → o.least ≤ length made
+  named : names ≡ earlier ++ map name_in made
+  distinct : AllPairs ◌≢◌ names
+
+section_sound : {A : Type 0} (fault : Context → List (List ℕ) → Place → Data → Option StudyFault) (value : Data → A) (lawful : A → Type 0) (name_in : A → List ℕ) (o : Occurrence) (context : Context)
+    → ((earlier : List (List ℕ)) (place : Place) (d : Data) → fault context earlier place d ≡ None → lawful (value d) × IsFresh earlier (name_value d))
+    → ((d : Data) → name_in (value d) ≡ name_value d) → (earlier : List (List ℕ)) (document : Data) → AllPairs ◌≢◌ earlier
+    → section_fault fault o context earlier document ≡ None → IsSound lawful name_in o earlier (section_value value o.section document) (earlier ++ section_names o.section document)
+unfolding section_fault section_value section_names
+section_sound fault value lawful name_in o context sound is earlier document distinct e =
+    let items = items_in (section_in o.section document) in
+    let checks = no_fault (array_fault o (section_in o.section document) ∷ entries_fault fault context o.section earlier 1 items ∷ []) e in
+    let count = array_sound o (section_in o.section document) (checks 0) in
+    let most = count.0 in
+    let made = entries_sound fault value lawful context o.section sound earlier 1 items (checks 1) distinct in record {
+      all = made.0;
+      few = omega (arith, most, items_counted value items);
+      enough = λ needed. let least = count.1 needed in omega (arith, least, items_counted value items);
+      named = ap (λ (ns : List (List ℕ)). earlier ++ ns) (entries_named value name_in is items);
+      distinct = made.1;
+    }
+
+-- ---- the plant
+record IsPlantSound (context : Context) (earlier : List (List ℕ)) (plant : Plant) (names : List (List ℕ)) : Type 0 where
+  lawful : IsLawfulPlant context.model context.buses plant
+  named : names ≡ earlier ++ names_in plant
+  distinct : AllPairs ◌≢◌ names
+
+plant_sound : (context : Context) (buses : List (List ℕ)) (document : Data) → AllPairs ◌≢◌ buses → plant_fault context buses document ≡ None
+    → IsPlantSound context buses (plant_value context document) (plant_names buses document)
+unfolding plant_fault plant_names plant_value
+plant_sound context buses document distinct e =
+    let source_names = buses ++ section_names section.Source document in
+    let line_names = source_names ++ section_names section.Line document in
+    let transformer_names = line_names ++ section_names section.Transformer document in
+    let load_names = transformer_names ++ section_names section.Load document in
+    let bank_names = load_names ++ section_names section.Bank document in
+    let checks = no_fault (section_fault source_entry_fault (at_most section.Source MAX_ELEMENTS) context buses document ∷ section_fault line_entry_fault (at_most section.Line MAX_ELEMENTS) context source_names document ∷ section_fault transformer_entry_fault (at_most section.Transformer MAX_ELEMENTS) context line_names document ∷ section_fault load_entry_fault (at_most section.Load MAX_ELEMENTS) context transformer_names document ∷ section_fault bank_entry_fault (at_most section.Bank MAX_ELEMENTS) context load_names document ∷ section_fault filter_entry_fault (at_most section.Filter MAX_ELEMENTS) context bank_names document ∷ []) e in
+    let sources = section_sound source_entry_fault (source_entry context) (IsLawfulSource context.buses) (λ (s : Source). s.name) (at_most section.Source MAX_ELEMENTS) context (source_lawful context) (source_named context) buses document distinct (checks 0) in
+    let lines = section_sound line_entry_fault (line_entry context) (IsLawfulLine context.model context.buses) (λ (s : Line). s.name) (at_most section.Line MAX_ELEMENTS) context (line_lawful context) (line_named context) source_names document sources.distinct (checks 1) in
+    let transformers = section_sound transformer_entry_fault (transformer_entry context) (IsLawfulTransformer context.buses) (λ (s : Transformer). s.name) (at_most section.Transformer MAX_ELEMENTS) context (transformer_lawful context) (transformer_named context) line_names document lines.distinct (checks 2) in
+    let loads = section_sound load_entry_fault (load_entry context) (IsLawfulLoad context.model context.buses) (λ (s : Load). s.name) (at_most section.Load MAX_ELEMENTS) context (load_lawful context) (load_named context) transformer_names document transformers.distinct (checks 3) in
+    let banks = section_sound bank_entry_fault (bank_entry context) (IsLawfulBank context.model context.buses) (λ (s : Bank). s.name) (at_most section.Bank MAX_ELEMENTS) context (bank_lawful context) (bank_named context) load_names document loads.distinct (checks 4) in
+    let filters = section_sound filter_entry_fault (filter_entry context) (IsLawfulFilter context.model context.buses) (λ (s : Filter). s.name) (at_most section.Filter MAX_ELEMENTS) context (filter_lawful context) (filter_named context) bank_names document banks.distinct (checks 5) in record {
+      lawful = record {
+        sources_count = sources.few;
+        sources = sources.all;
+        lines_count = lines.few;
+        lines = lines.all;
+        transformers_count = transformers.few;
+        transformers = transformers.all;
+        loads_count = loads.few;
+        loads = loads.all;
+        banks_count = banks.few;
+        banks = banks.all;
+        filters_count = filters.few;
+        filters = filters.all;
+      };
+      named = rw (filters.named, banks.named, loads.named, transformers.named, lines.named, sources.named) (named buses (plant_value context document));
+      distinct = filters.distinct;
+    }
+
+-- ---- the study
+header_sound : (o : Option Data) → study_section_fault o ≡ None → IsLawfulHeader (study_section_value o)
+unfolding study_section_fault study_section_value header_fault header_value
+header_sound None e = absurd (cc)
+header_sound (Some d) e =
+    let place = place_of section.Study 1 key.Nothing in
+    let checks = no_fault (keys_fault (place_of section.Study 0 key.Nothing) place study_keys d ∷ version_fault place d ∷ decimal_fault place key.Mva BASE_MVA d ∷ default_fault place key.Hz HERTZ d ∷ word_fault place key.Model false study_model_of d ∷ scale_fault place d ∷ word_fault place key.Method false built_method_of d ∷ default_fault place key.Root3 ROOT3 d ∷ []) e in
+    record {
+      mva = decimal_sound place key.Mva BASE_MVA d (checks 2);
+      hz = default_sound place key.Hz HERTZ (pos 50000000) d (checks 3) (omega (arith, ints), omega (arith, ints));
+      scale = scale_sound place d (checks 5);
+      root3 = default_sound place key.Root3 ROOT3 (pos 1732051) d (checks 7) (omega (arith, ints), omega (arith, ints));
+    }
 
 first_of : (a bus : ℕ) (rest : List ℕ) → a ≡ bus → Contains (a ∷ rest) bus
 first_of a bus rest e = (0, omega arith, e)
@@ -36,87 +189,64 @@ touched [] bus n h = absurd h
 touched (e ∷ es) bus zero h = covers e bus h
 touched (e ∷ es) bus (suc n) h = touched es bus n h
 
--- a study of these parts
-abbrev pub study_from : Header → List Bus → Plant → List ScanItem → List Pcc → Study
-study_from h buses p scans points = record {
-  version = 1;
-  mva = h.mva;
-  hz = h.hz;
-  model = h.model;
-  scale = h.scale;
-  method = h.method;
-  root3 = h.root3;
-  buses = buses;
-  sources = p.sources;
-  lines = p.lines;
-  transformers = p.transformers;
-  loads = p.loads;
-  banks = p.banks;
-  filters = p.filters;
-  scans = scans;
-  points = points;
-}
-
 -- a point that reaches an element touches it
-point_of : (h : Header) (buses : List Bus) (p : Plant) (scans : List ScanItem) (points : List Pcc) (point : Pcc)
-    → IsLawfulPoint (record { model = h.model; buses = buses; elements = plant_elements p }) point → IsLawfulPcc (study_from h buses p scans points) point
-unfolding plant_elements
-point_of h buses p scans points point q = record {
+touches : (study : Study) (point : Pcc) → IsLawfulPoint (record { model = study.model; buses = study.buses; elements = map ends_of (elements_of study) }) point → IsLawfulPcc study point
+touches study point q = record {
   name = q.name;
   bus = q.bus;
-  element = (q.element.counted, touched (elements_in p.sources p.lines p.transformers p.loads p.banks p.filters) point.bus (point.element - 1) q.element.ends);
+  element = (q.element.counted, touched (elements_of study) point.bus (point.element - 1) q.element.ends);
   isc = q.isc;
   il = q.il;
 }
 
--- what is read of a study one section after another
-pub record AreLawful (h : Header) (bs : List Bus) (p : Plant) (c : Context) (ss : List ScanItem) (ps : List Pcc) (names : List (List ℕ)) : Type 0 where
-  pub header : IsLawfulHeader h
-  pub some_buses : 1 ≤ length bs
-  pub few_buses : length bs ≤ MAX_BUSES
-  pub buses : All IsLawfulBus bs
-  pub plant : IsLawfulPlant h.model bs p
-  pub context : c ≡ record { model = h.model; buses = bs; elements = plant_elements p }
-  pub few_scans : length ss ≤ MAX_SCANS
-  pub scans : All (IsLawfulScan h.model bs) ss
-  pub few_points : length ps ≤ MAX_POINTS
-  pub points : All (IsLawfulPoint c) ps
-  pub distinct : AllPairs ◌≢◌ names
-  pub named : names ≡ map (λ (bus : Bus). bus.name) bs ++ names_in p ++ map (λ (scan : ScanItem). scan.name) ss ++ map (λ (point : Pcc). point.name) ps
+no_names : AllPairs {X = List ℕ} ◌≢◌ []
+no_names = λ i j d lt short. absurd (omega arith)
 
--- is a lawful study
-lawful_parts : (h : Header) (buses : List Bus) (p : Plant) (c : Context) (scans : List ScanItem) (points : List Pcc) (names : List (List ℕ))
-    → AreLawful h buses p c scans points names → IsLawful (study_from h buses p scans points)
-lawful_parts h buses p c scans points names a =
-    let at_points : All (IsLawfulPoint (record { model = h.model; buses = buses; elements = plant_elements p })) points
-    = subst (λ (d : Context). All (IsLawfulPoint d) points) a.context a.points in record {
+lawful_study : (document : Data) → sections_fault document ≡ None → IsLawful (study_value document)
+unfolding sections_fault study_value context_of with_elements plant_elements
+lawful_study document e =
+    let before = before_buses document in
+    let context = context_of document in
+    let plant = plant_value context document in
+    let whole = with_elements context plant in
+    let bus_names = section_names section.Bus document in
+    let all_names = plant_names bus_names document in
+    let checks = no_fault (study_section_fault (section_in section.Study document) ∷ section_fault bus_entry_fault some_buses (before_buses document) [] document ∷ plant_fault (context_of document) bus_names document ∷ section_fault scan_entry_fault (at_most section.Scan MAX_SCANS) (context_of document) (plant_names bus_names document) document ∷ section_fault point_entry_fault (at_most section.Pcc MAX_POINTS) (with_elements (context_of document) (plant_value (context_of document) document)) (plant_names bus_names document ++ section_names section.Scan document) document ∷ []) e in
+    let header = header_sound (section_in section.Study document) (checks 0) in
+    let buses = section_sound bus_entry_fault (bus_entry before) IsLawfulBus (λ (s : Bus). s.name) some_buses before (bus_lawful before) (bus_named before) [] document no_names (checks 1) in
+    let p = plant_sound context bus_names document buses.distinct (checks 2) in
+    let scans = section_sound scan_entry_fault (scan_entry context) (IsLawfulScan context.model context.buses) (λ (s : ScanItem). s.name) (at_most section.Scan MAX_SCANS) context (scan_lawful context) (scan_named context) all_names document p.distinct (checks 3) in
+    let points = section_sound point_entry_fault (point_entry whole) (IsLawfulPoint whole) (λ (s : Pcc). s.name) (at_most section.Pcc MAX_POINTS) whole (point_lawful whole) (point_named whole) (all_names ++ section_names section.Scan document) document scans.distinct (checks 4) in
+    let of_buses : bus_names ≡ map (λ (s : Bus). s.name) (section_value (bus_entry before) section.Bus document) = buses.named in
+    record {
       version = refl;
-      mva = a.header.mva;
-      hz = a.header.hz;
-      scale = a.header.scale;
-      root3 = a.header.root3;
-      buses_count = (a.some_buses, a.few_buses);
-      buses = a.buses;
-      sources_count = a.plant.sources_count;
-      sources = a.plant.sources;
-      lines_count = a.plant.lines_count;
-      lines = a.plant.lines;
-      transformers_count = a.plant.transformers_count;
-      transformers = a.plant.transformers;
-      loads_count = a.plant.loads_count;
-      loads = a.plant.loads;
-      banks_count = a.plant.banks_count;
-      banks = a.plant.banks;
-      filters_count = a.plant.filters_count;
-      filters = a.plant.filters;
-      scans_count = a.few_scans;
-      scans = a.scans;
-      points_count = a.few_points;
-      points = λ k d lt. point_of h buses p scans points _ (at_points k d lt);
-      names = subst (λ (ns : List (List ℕ)). AllPairs ◌≢◌ ns) a.named a.distinct;
+      mva = header.mva;
+      hz = header.hz;
+      scale = header.scale;
+      root3 = header.root3;
+      buses_count = (buses.enough refl, buses.few);
+      buses = buses.all;
+      sources_count = p.lawful.sources_count;
+      sources = p.lawful.sources;
+      lines_count = p.lawful.lines_count;
+      lines = p.lawful.lines;
+      transformers_count = p.lawful.transformers_count;
+      transformers = p.lawful.transformers;
+      loads_count = p.lawful.loads_count;
+      loads = p.lawful.loads;
+      banks_count = p.lawful.banks_count;
+      banks = p.lawful.banks;
+      filters_count = p.lawful.filters_count;
+      filters = p.lawful.filters;
+      scans_count = scans.few;
+      scans = scans.all;
+      points_count = points.few;
+      points = λ k point lt. touches (study_value document) _ (points.all k point lt);
+      names = subst (λ (ns : List (List ℕ)). AllPairs ◌≢◌ ns) (rw (points.named, scans.named, p.named, of_buses) refl) points.distinct;
     }
 
-pub lawful_study : (h : Header) (buses : List Bus) (p : Plant) (c : Context) (scans : List ScanItem) (points : List Pcc) (names : List (List ℕ))
-    → AreLawful h buses p c scans points names → IsLawful (study_from h c.buses p scans points)
-lawful_study h buses p c scans points names a =
-    subst (λ (d : Context). IsLawful (study_from h d.buses p scans points)) (sym a.context) (lawful_parts h buses p c scans points names a)
+-- a study whose checks find no fault is lawful, and of a form that is built
+pub built_of : (document : Data) (study : Study) → first_fault (sections_fault document ∷ unbuilt (study_value document) ∷ []) ≡ None → study ≡ study_value document → IsBuilt study
+built_of document study e is =
+    let checks = no_fault (sections_fault document ∷ unbuilt (study_value document) ∷ []) e in
+    subst IsBuilt (sym is) (record { lawful = lawful_study document (checks 0); none = checks 1 })

@@ -1,5 +1,5 @@
 -- The rules on the keys of an entry, from what the checks of its keys find.
-use Rattle.std.proofs.Common.{◌≡◌, ◌<◌, ℕ, ℤ, pos, zero, suc, Bool, true, false, not, ◌||◌, List, [], ◌∷◌, Option, Some, None, length, refl, arith, sym, ap, ◌∙◌}
+use Rattle.std.proofs.Common.{◌≡◌, ◌<◌, ℕ, ℤ, pos, zero, suc, Bool, true, false, not, ◌&&◌, ◌||◌, List, [], ◌∷◌, Option, Some, None, length, refl, arith, sym, ap, ◌∙◌}
 use Rattle.std.specs.Prelude.{IfSome, is_some, slice_get, option_map, unwrap_or}
 use Rattle.study_model.specs.Range.{IsIn}
 use Rattle.study_model.specs.Lawful.{HaveEqualKv}
@@ -43,7 +43,7 @@ has_zero_rule study_model.Phases (Some r0) needed = tt
 -- the mutual reactances
 pub mutual_rule : (model : StudyModel) (xab xbc xca : Option ℤ) → IfSome xab (IsIn ORDINARY) → IfSome xbc (IsIn ORDINARY) → IfSome xca (IsIn ORDINARY)
     → (in_phases model ≡ false → is_some xab ≡ false) → (in_phases model ≡ false → is_some xbc ≡ false) → (in_phases model ≡ false → is_some xca ≡ false)
-    → ((is_some xab || is_some xbc || is_some xca) ≡ true → (is_some xab ≡ true) × (is_some xbc ≡ true) × (is_some xca ≡ true))
+    → ((in_phases model && (is_some xab || is_some xbc || is_some xca)) ≡ true → (is_some xab ≡ true) × (is_some xbc ≡ true) × (is_some xca ≡ true))
     → AreMutual model xab xbc xca
 mutual_rule model None None None ra rb rc sa sb sc all = tt
 mutual_rule study_model.Phases (Some a) (Some b) (Some c) ra rb rc sa sb sc all = (ra, rb, rc)

@@ -44,15 +44,15 @@ at_most_fault place key value most = unless (int_le value most) (OutOfRange (key
 abbrev pub has_mutual : Data → Bool
 has_mutual entry = has key.Xab entry || has key.Xbc entry || has key.Xca entry
 
--- the mutual reactances in ohms, all or none, in the phases model alone
+-- the mutual reactances in ohms: all or none in the phases model, and keys that don't belong in the sequence model
 unfoldable pub mutual_fault : StudyModel → Place → Data → Option StudyFault
 mutual_fault model place entry = first_fault (
     stray_fault place key.Xab (in_phases model) entry ∷
-    optional_fault place key.Xab (has_mutual entry) ORDINARY entry ∷
+    optional_fault place key.Xab (in_phases model && has_mutual entry) ORDINARY entry ∷
     stray_fault place key.Xbc (in_phases model) entry ∷
-    optional_fault place key.Xbc (has_mutual entry) ORDINARY entry ∷
+    optional_fault place key.Xbc (in_phases model && has_mutual entry) ORDINARY entry ∷
     stray_fault place key.Xca (in_phases model) entry ∷
-    optional_fault place key.Xca (has_mutual entry) ORDINARY entry ∷ [])
+    optional_fault place key.Xca (in_phases model && has_mutual entry) ORDINARY entry ∷ [])
 
 abbrev pub mutuals : Data → Mutual
 mutuals entry = record { xab = option_value key.Xab entry; xbc = option_value key.Xbc entry; xca = option_value key.Xca entry }

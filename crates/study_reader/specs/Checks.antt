@@ -1,10 +1,10 @@
 -- Checks of the value at a key of an entry, each with the value that it stands for.
 use Rattle.std.specs.Prelude.{◌≡◌, ◌≢◌, ℕ, ℤ, pos, negsuc, unsigned_abs, int_le, ◌+◌, Bool, true, false, not, ◌&&◌, ◌||◌, nat_eq, if◌then◌else◌, List, [], ◌∷◌, Option, Some, None, Result, Ok, Err, option_map, unwrap_or, is_some}
 use Rattle.std.specs.Ordering.{int_eq}
+use Rattle.std.specs.Result.{result_ok}
 use Rattle.std.specs.Str.{bytes_eq}
 use Rattle.toml.specs.Data.{Data, get, string, integer, float, boolean, datetime, array, table, Members, no_members, member}
 use Rattle.fixed_decimal.specs.Parsed.{decimal_of, whole_decimal_of}
-use Rattle.fixed_decimal.specs.declared.fault.DecimalFault.{DecimalFault}
 use Rattle.study_model.specs.NameText.{is_name}
 use Rattle.study_model.specs.Words.{key_text}
 use Rattle.study_model.specs.declared.fault.Place.{Place}
@@ -24,15 +24,20 @@ first_fault [] = None
 first_fault (None ∷ checks) = first_fault checks
 first_fault (Some fault ∷ checks) = Some fault
 
--- A reading answers the value where its check finds no fault, and else the fault, unless memory runs out.
+-- A reading answers the value where its check finds no fault, and else that fault.
 abbrev pub Reads : {A : Type 0} → Result A StudyFault → Option StudyFault → A → Type 0
 Reads (Ok x) check value = (check ≡ None) × (x ≡ value)
-Reads (Err fault) check value = fault ≢ NoMemory → check ≡ Some fault
+Reads (Err fault) check value = check ≡ Some fault
 
 -- the same where the answer is seen by a function
 abbrev pub ReadsBy : {A B : Type 0} → (A → B) → Result A StudyFault → Option StudyFault → B → Type 0
 ReadsBy seen (Ok x) check value = (check ≡ None) × (seen x ≡ value)
-ReadsBy seen (Err fault) check value = fault ≢ NoMemory → check ≡ Some fault
+ReadsBy seen (Err fault) check value = check ≡ Some fault
+
+-- a reading that takes memory answers so too, unless memory runs out
+abbrev pub ReadsInMemory : {A : Type 0} → Result A StudyFault → Option StudyFault → A → Type 0
+ReadsInMemory (Ok x) check value = (check ≡ None) × (x ≡ value)
+ReadsInMemory (Err fault) check value = fault ≢ NoMemory → check ≡ Some fault
 
 -- a place in a study
 abbrev pub place_of : Section → ℕ → Key → Place
@@ -60,14 +65,14 @@ stray_fault place key belongs entry = unless (belongs || not (has key entry)) (U
 
 -- ---- decimals
 -- a decimal in its range
-abbrev pub range_fault : Place → Range → Result ℤ DecimalFault → Option StudyFault
-range_fault place range (Ok d) = unless (int_le range.low d && int_le d range.high) (OutOfRange place)
-range_fault place range (Err fault) = Some (BadDecimal place)
+abbrev pub range_fault : Place → Range → Option ℤ → Option StudyFault
+range_fault place range None = Some (BadDecimal place)
+range_fault place range (Some d) = unless (int_le range.low d && int_le d range.high) (OutOfRange place)
 
 -- a decimal is a quoted text or a bare whole number
 abbrev pub decimal_check : Place → Range → Data → Option StudyFault
-decimal_check place range (string text) = range_fault place range (decimal_of text)
-decimal_check place range (integer n) = range_fault place range (whole_decimal_of n)
+decimal_check place range (string text) = range_fault place range (result_ok (decimal_of text))
+decimal_check place range (integer n) = range_fault place range (result_ok (whole_decimal_of n))
 decimal_check place range (float x) = Some (BareDecimal place)
 decimal_check place range (boolean b) = Some (WrongKind place)
 decimal_check place range (datetime t) = Some (WrongKind place)
@@ -75,13 +80,12 @@ decimal_check place range (array ds) = Some (WrongKind place)
 decimal_check place range (table ms) = Some (WrongKind place)
 
 -- the millionths of a decimal, and 0 where there is none
-abbrev pub millionths_of : Result ℤ DecimalFault → ℤ
-millionths_of (Ok d) = d
-millionths_of (Err fault) = pos 0
+abbrev pub millionths_of : Option ℤ → ℤ
+millionths_of decimal = unwrap_or decimal (pos 0)
 
 abbrev pub decimal_in : Data → ℤ
-decimal_in (string text) = millionths_of (decimal_of text)
-decimal_in (integer n) = millionths_of (whole_decimal_of n)
+decimal_in (string text) = millionths_of (result_ok (decimal_of text))
+decimal_in (integer n) = millionths_of (result_ok (whole_decimal_of n))
 decimal_in _ = pos 0
 
 abbrev pub decimal_found : Place → Bool → Range → Option Data → Option StudyFault

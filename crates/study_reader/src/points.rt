@@ -19,11 +19,9 @@ fn is_element(text: &[u8], bus: u32, element: &Element) -> bool
 }
 
 /// The number of the element of a name that touches a bus.
-#[tactic(auto, using(crate::proofs::Fresh::reaches))]
 fn place_of_element(elements: &[Element], text: &[u8], bus: u32) -> Option<u32>
     requires { length elements.now ≤ MAX_ALL_ELEMENTS }
     ensures found { result ≡ element_at 1 elements.now text.now bus }
-    ensures reaches { IfSome result (Reaches elements.now bus) }
 {
     let mut number = 1;
     for element in elements {
@@ -43,7 +41,6 @@ fn element_of(
     bus: u32,
 ) -> Result<u32, StudyFault>
     requires { length elements.now ≤ MAX_ALL_ELEMENTS }
-    ensures reaches { IfOk result (Reaches elements.now bus) }
     ensures read { Reads result (element_fault place elements.now bus (view entry.now)) (element_value elements.now bus (view entry.now)) }
 {
     match find(entry, Key::Element) {
@@ -69,8 +66,6 @@ pub(crate) fn point_entry(
     requires earlier { length earlier.now ≤ MAX_NAMES }
     requires buses { length context.now.buses ≤ MAX_BUSES }
     requires elements { length context.now.elements ≤ MAX_ALL_ELEMENTS }
-    ensures lawful { IfOk result (IsLawfulPoint context.now) }
-    ensures fresh { IfOk result (λ e. IsFresh earlier.now e.name) }
     ensures read { Reads result (point_entry_fault context.now earlier.now place (view entry.now)) (point_of context.now (view entry.now)) }
 {
     let keys = [Key::Name, Key::Bus, Key::Element, Key::Isc, Key::Il];

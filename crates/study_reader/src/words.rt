@@ -99,8 +99,6 @@ pub(crate) fn word<W: HasWord>(
     key: Key,
     needed: bool,
 ) -> Result<Option<W>, StudyFault>
-    ensures there { IfOk result (λ meaning. is_some meaning ≡ has key (view entry.now)) }
-    ensures needed { needed ≡ true → IfOk result (λ meaning. is_some meaning ≡ true) }
     ensures read { Reads result (word_fault place key needed W.word (view entry.now)) (word_value W.word key (view entry.now)) }
 {
     match find(entry, key) {

@@ -131,7 +131,7 @@ pub const HEADERS: [(&str, &str); 30] = [
 ];
 
 /// Buses.
-pub const BUS_LISTS: [(&str, &str); 13] = [
+pub const BUS_LISTS: [(&str, &str); 15] = [
     ("bus = [{ kv = 10 }]", "3 MissingKey bus 1 name"),
     ("bus = [{ name = 1, kv = 10 }]", "5 WrongKind bus 1 name"),
     ("bus = [{ name = \"\", kv = 10 }]", "9 BadName bus 1 name"),
@@ -154,6 +154,15 @@ pub const BUS_LISTS: [(&str, &str); 13] = [
     ),
     (
         "bus = [{ name = \"B1\", kv = \"2000.000001\" }]",
+        "8 OutOfRange bus 1 kv",
+    ),
+    // Texts of more than 64 bytes: one too large, and one below the range.
+    (
+        "bus = [{ name = \"B1\", kv = \"1111111111111111111111111111111111111111111111111111111111111111111111\" }]",
+        "7 BadDecimal bus 1 kv",
+    ),
+    (
+        "bus = [{ name = \"B1\", kv = \"000000000000000000000000000000000000000000000000000000000000000000.05\" }]",
         "8 OutOfRange bus 1 kv",
     ),
     (
@@ -248,7 +257,7 @@ pub const SOURCE_LISTS: [(&str, &str); 19] = [
 ];
 
 /// Lines, beside three buses and a source.
-pub const LINE_LISTS: [(&str, &str); 15] = [
+pub const LINE_LISTS: [(&str, &str); 17] = [
     (
         "line = [{ name = \"L1\", from = \"B1\", to = \"B9\", r = 0, x = 1 }]",
         "11 UnknownBus line 1 to",
@@ -292,6 +301,15 @@ pub const LINE_LISTS: [(&str, &str); 15] = [
     (
         "line = [{ name = \"L1\", from = \"B1\", to = \"B2\", r = 0, x = 1, xab = 1 }]",
         "4 UnknownKey line 1 xab",
+    ),
+    // A key of another model is named itself, whatever others of its group are absent.
+    (
+        "line = [{ name = \"L1\", from = \"B1\", to = \"B2\", r = 0, x = 1, xbc = 1 }]",
+        "4 UnknownKey line 1 xbc",
+    ),
+    (
+        "line = [{ name = \"L1\", from = \"B1\", to = \"B2\", r = 0, x = 1, xca = 1.5 }]",
+        "4 UnknownKey line 1 xca",
     ),
     (
         "line = [{ name = \"L1\", from = \"B1\", to = \"B2\", r = 0, x = 1, r0 = 1 }]",

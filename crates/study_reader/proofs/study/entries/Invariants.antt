@@ -6,9 +6,6 @@ use Rattle.study_reader.proofs.study.entries.Given as goal
 
 abbrev pub invariant-loop-value : goal.invariant-loop-value
 invariant-loop-value g l = record {
-  lawful : All (g.E.Entry.lawful l.context) l.made.items;
-  distinct : AllPairs ◌≢◌ l.names.items;
-  named : l.names.items ≡ l.initial.names.items ++ map g.E.Entry.name_in l.made.items;
   number : l.number ≡ l.value-index + 1;
   few : length l.names.items ≤ length l.initial.names.items + l.value-index;
   fault : entries_fault g.E.Entry.fault l.context l.section l.names.items l.number (items_view (drop l.value-index l.values))
