@@ -1,6 +1,6 @@
 -- A study whose checks find no fault is lawful.
 use Rattle.study_model.specs.ValueWords.{study_model_of}
-use Rattle.std.proofs.Common.{◌≡◌, ◌≢◌, ◌≤◌, ◌+◌, ◌-◌, ◌++◌, ◌⊎◌, ⊎_elim, ℕ, ℤ, pos, zero, suc, map, Bool, true, false, nat_le, List, [], ◌∷◌, Option, Some, None, length, refl, ap, arith, subst, sym, All, AllPairs, Contains, IsSomeAnd, slice_get, append_assoc}
+use Rattle.std.proofs.Common.{◌≡◌, ◌≢◌, ◌≤◌, ◌+◌, ◌-◌, ◌++◌, ◌⊎◌, ⊎_elim, ℕ, pos, zero, suc, map, true, false, nat_le, List, [], ◌∷◌, Option, Some, None, length, refl, ap, arith, subst, sym, All, AllPairs, Contains, IsSomeAnd, slice_get, append_assoc}
 use Rattle.std.proofs.lemmas.Bool.Decides.{nat_tests}
 use Rattle.std.proofs.lemmas.Int.{ints}
 use Rattle.std.proofs.lemmas.List.{append-nil}
@@ -27,7 +27,7 @@ use Rattle.study_model.specs.declared.records.ScanItem.{ScanItem}
 use Rattle.study_model.specs.declared.records.Pcc.{Pcc}
 use Rattle.study_model.specs.declared.records.Study.{Study}
 use Rattle.study_reader.specs.Built.{IsBuilt, unbuilt}
-use Rattle.study_reader.specs.Branches.{line_entry_fault, line_entry, transformer_entry_fault, transformer_entry, ends}
+use Rattle.study_reader.specs.Branches.{line_entry_fault, line_entry, transformer_entry_fault, transformer_entry}
 use Rattle.study_reader.specs.Checks.{first_fault, unless, place_of, name_value, at, decimal_fault, default_fault, version_fault, scale_fault, word_fault, keys_fault}
 use Rattle.study_reader.specs.Entries.{bus_entry_fault, bus_entry, source_entry_fault, source_entry, bank_entry_fault, bank_entry, filter_entry_fault, filter_entry, scan_entry_fault, scan_entry}
 use Rattle.study_reader.specs.EntryNames.{bus_named, source_named, line_named, transformer_named, load_named, bank_named, filter_named, scan_named, point_named}

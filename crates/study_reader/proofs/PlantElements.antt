@@ -1,8 +1,8 @@
 -- The elements of a plant, section by section.
-use Rattle.std.proofs.Common.{◌≡◌, ◌+◌, ◌++◌, map, List, ℕ, [], ◌∷◌, length, refl, ap, ◌∙◌, arith, append_assoc, length-append}
+use Rattle.std.proofs.Common.{◌≡◌, ◌+◌, ◌++◌, map, List, ℕ, [], ◌∷◌, length, refl, ap, append_assoc, length-append}
 use Rattle.std.proofs.Math.Nat.{add_assoc}
 use Rattle.std.proofs.lemmas.List.{map-append, length-map}
-use Rattle.study_model.specs.Elements.{StudyElement, of_source, of_line, of_transformer, of_load, of_bank, of_filter, elements_in, element_name}
+use Rattle.study_model.specs.Elements.{StudyElement}
 use Rattle.study_model.specs.declared.records.Source.{Source}
 use Rattle.study_model.specs.declared.records.Line.{Line}
 use Rattle.study_model.specs.declared.records.Transformer.{Transformer}
@@ -11,7 +11,6 @@ use Rattle.study_model.specs.declared.records.Bank.{Bank}
 use Rattle.study_model.specs.declared.records.Filter.{Filter}
 use Rattle.study_reader.specs.Lawful.{names_in}
 use Rattle.study_reader.specs.StudyOf.{plant_elements, ends_of}
-use Rattle.study_reader.specs.declared.context.Element.{Element}
 use Rattle.study_reader.specs.declared.study.Plant.{Plant}
 
 -- six lists, seen one after another behind a list

@@ -1,9 +1,9 @@
 -- What the values of keys keep where their checks find no fault.
 use Rattle.std.proofs.Common.{◌≡◌, ◌≢◌, ◌<◌, ◌+◌, ◌⊎◌, ⊎_elim, ℕ, ℤ, pos, negsuc, Bool, true, false, not, ◌&&◌, ◌||◌, if◌then◌else◌, nat_eq, List, [], ◌∷◌, Option, Some, None, length, refl, arith, sym, subst, T, bytes_eq, get_or, zero, suc}
-use Rattle.std.specs.Prelude.{IfSome, is_some, slice_get, option_map, unwrap_or, int_le, int_lt, unsigned_abs, ◌≤ℤ◌, ◌<ℤ◌, ◌≤◌}
+use Rattle.std.specs.Prelude.{IfSome, is_some, option_map, unwrap_or, int_le, int_lt, unsigned_abs, ◌≤ℤ◌, ◌<ℤ◌, ◌≤◌}
 use Rattle.std.specs.Ordering.{int_eq}
 use Rattle.std.specs.Result.{result_ok}
-use mathlib.Core.Logic.{inl, inr}
+use mathlib.Core.Logic.{inl}
 use lib.Signed.{le_z_yes, lt_z_yes}
 use Rattle.std.proofs.lemmas.Bool.{and_parts}
 use Rattle.std.proofs.lemmas.Bool.Decides.{nat_tests}
@@ -18,11 +18,11 @@ use Rattle.study_model.specs.declared.fault.Place.{Place}
 use Rattle.study_model.specs.declared.fault.Key.{Key}
 use Rattle.study_model.specs.declared.fault.Key.TheVariants as key
 use Rattle.study_model.specs.declared.fault.StudyFault.{StudyFault}
-use Rattle.study_model.specs.declared.fault.StudyFault.TheVariants.{MissingKey, UnknownKey, OutOfRange, BadName, DuplicateName, UnknownBus, UnknownElement}
+use Rattle.study_model.specs.declared.fault.StudyFault.TheVariants.{UnknownKey, OutOfRange, BadName, DuplicateName, UnknownBus, UnknownElement}
 use Rattle.study_model.specs.declared.limits.TheConstants.{MAX_SECTIONS}
 use Rattle.study_model.specs.declared.range.Range.{Range}
 use Rattle.study_model.specs.declared.records.Bus.{Bus}
-use Rattle.study_reader.specs.Checks.{first_fault, unless, key_of, at, has, stray_fault, range_fault, decimal_check, millionths_of, decimal_in, decimal_found, optional_fault, decimal_fault, default_fault, option_value, decimal_or, decimal_value, is_zero, both_zero_fault, AreNotBothGivenZero, scale_found, scale_fault, scale_value, whole_in, sections_of, sections_found, sections_fault, sections_value, word_found, word_fault, word_in, word_value, name_at, name_found, name_fault, name_value, text_in, reserved_found, reserved_fault, bus_at, bus_found, bus_fault, bus_value}
+use Rattle.study_reader.specs.Checks.{first_fault, unless, key_of, at, has, stray_fault, range_fault, decimal_check, millionths_of, decimal_in, decimal_found, optional_fault, decimal_fault, default_fault, option_value, decimal_or, decimal_value, is_zero, both_zero_fault, AreNotBothGivenZero, scale_found, scale_fault, scale_value, whole_in, sections_found, sections_fault, sections_value, word_found, word_fault, word_in, word_value, name_at, name_found, name_fault, name_value, text_in, reserved_found, reserved_fault, bus_at, bus_found, bus_fault, bus_value}
 use Rattle.study_reader.specs.Points.{element_at, element_found, element_fault, element_value}
 use Rattle.study_reader.specs.Lawful.{IsFresh, Reaches}
 use Rattle.study_reader.specs.declared.context.Element.{Element}

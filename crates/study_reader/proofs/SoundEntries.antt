@@ -1,5 +1,5 @@
 -- An entry whose checks find no fault is lawful, and no earlier entry has its name.
-use Rattle.std.proofs.Common.{◌≡◌, ◌≢◌, ◌<◌, ◌∙◌, ◌&&◌, ◌||◌, ℕ, ℤ, pos, Bool, true, false, not, nat_eq, List, [], ◌∷◌, Option, Some, None, length, refl, arith, sym, ap, subst, codes}
+use Rattle.std.proofs.Common.{◌≡◌, ◌≢◌, ◌∙◌, ◌&&◌, ◌||◌, ℕ, ℤ, pos, Bool, true, false, not, nat_eq, List, [], ◌∷◌, Option, Some, None, refl, arith, sym, ap, codes}
 use Rattle.std.specs.Prelude.{IfSome, is_some, unwrap_or, int_le, int_lt, ◌≤ℤ◌, ◌<ℤ◌, ◌-ℤ◌, ◌*ℤ◌}
 use Rattle.std.specs.Ordering.{int_eq}
 use Rattle.std.proofs.lemmas.Bool.{and_parts}
@@ -7,9 +7,9 @@ use Rattle.std.proofs.lemmas.Bool.Decides.{nat_tests, Decides-int_eq}
 use Rattle.std.proofs.lemmas.Int.{ints}
 use Rattle.toml.specs.Data.{Data}
 use Rattle.study_model.specs.Range.{IsIn}
-use Rattle.study_model.specs.Rules.{AreNotBothZero, IsZeroSequence, HasZeroSequence, AreMutual, IsNeutral, IsPower, IsImpedance, IsElementPhase, IsScanned}
+use Rattle.study_model.specs.Rules.{AreNotBothZero, IsZeroSequence, AreMutual, IsNeutral, IsElementPhase, IsScanned}
 use Rattle.study_model.specs.ValueWords.{phase_of, connection_of, load_model_of, filter_kind_of, sequence_of}
-use Rattle.study_model.specs.Lawful.{IsName, IsBus, HaveEqualKv, IsLawfulBus, IsLawfulSource, IsLawfulLine, IsLawfulTransformer, IsLawfulLoad, IsLawfulBank, IsLawfulFilter, IsLawfulScan}
+use Rattle.study_model.specs.Lawful.{IsBus, HaveEqualKv, IsLawfulBus, IsLawfulSource, IsLawfulLine, IsLawfulTransformer, IsLawfulLoad, IsLawfulBank, IsLawfulFilter, IsLawfulScan}
 use Rattle.study_model.specs.declared.fault.Place.{Place}
 use Rattle.study_model.specs.declared.fault.Key.{Key}
 use Rattle.study_model.specs.declared.fault.Key.TheVariants as key

@@ -1,5 +1,5 @@
 -- What holds of the parts of a study that are read.
-use Rattle.std.specs.Prelude.{◌≡◌, ◌≢◌, ◌⊎◌, ◌≤◌, ◌-◌, ◌++◌, ℕ, List, map, length, slice_get, All, IsSomeAnd}
+use Rattle.std.specs.Prelude.{◌≡◌, ◌≢◌, ◌⊎◌, ◌≤◌, ◌-◌, ℕ, List, map, length, slice_get, All, IsSomeAnd}
 use Rattle.study_model.specs.Range.{IsIn}
 use Rattle.study_model.specs.Elements.{elements_in, element_name}
 use Rattle.study_model.specs.Lawful.{IsName, IsBus, IsLawfulSource, IsLawfulLine, IsLawfulTransformer, IsLawfulLoad, IsLawfulBank, IsLawfulFilter}

@@ -1,4 +1,4 @@
-use Rattle.std.proofs.Common.{All, AllPairs, ◌≡◌, ◌≢◌, map, ◌+◌, ◌≤◌, ◌++◌, drop, length}
+use Rattle.std.proofs.Common.{◌≡◌, ◌+◌, ◌≤◌, ◌++◌, drop, length}
 use Rattle.toml.specs.View.{items_view}
 use Rattle.study_reader.specs.Checks.{name_value}
 use Rattle.study_reader.specs.Sections.{entries_fault, entries_of}
