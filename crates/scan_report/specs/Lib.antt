@@ -1,4 +1,5 @@
 pub mod Text
+pub mod Fields
 pub mod Rows
 pub mod Reading
 pub mod Loose

@@ -1,5 +1,5 @@
 -- A text read as a row, whatever stands in it: the row of a text is its row, and other texts are told apart by their row's own text.
-use Rattle.std.specs.Prelude.{ℕ, ◌+◌, ◌-◌, ◌*◌, ◌^◌, ℤ, pos, min, max, Bool, not, ◌||◌, ◌==◌, if◌then◌else◌, List, [], ◌∷◌, take, drop, Option, Some, None}
+use Rattle.std.specs.Prelude.{ℕ, zero, suc, ◌+◌, ◌-◌, ◌*◌, ◌^◌, ℤ, pos, min, max, Bool, not, ◌||◌, ◌==◌, if◌then◌else◌, List, [], ◌∷◌, take, drop, Option, Some, None}
 use Rattle.std.specs.List.{prefix_len, fold}
 use Rattle.study_model.specs.NameText.{is_name}
 use Rattle.study_model.specs.declared.words.Method.{Method}
@@ -22,6 +22,11 @@ field_of text = take (prefix_len is_inner text) text
 -- what stands after it and the byte that ends it
 unfoldable pub after_field : List ℕ → List ℕ
 after_field text = drop (prefix_len is_inner text + 1) text
+
+-- the field of a text that has this number, its word being 0
+abbrev pub field_at : ℕ → List ℕ → List ℕ
+field_at zero text = field_of text
+field_at (suc n) text = field_at n (after_field text)
 
 -- one more digit of a number, of which a point is none; numbers are capped
 abbrev pub digit_on : ℕ → ℕ → ℕ
@@ -69,35 +74,23 @@ unfoldable pub method_in : List ℕ → Method
 method_in text = if first_of text == 101 then Elimination else Both
 
 unfoldable pub scan_of : List ℕ → Row
-scan_of text =
-    let t1 = after_field text in let t2 = after_field t1 in let t3 = after_field t2 in let t4 = after_field t3 in
-    let t5 = after_field t4 in let t6 = after_field t5 in let t7 = after_field t6 in
-    Scan (name_in (field_of t1)) (name_in (field_of t2)) (net_of (field_of t3)) (short_of (field_of t4)) (short_of (field_of t5))
-    (threshold_of (field_of t6)) (method_in (field_of t7))
+scan_of x = Scan (name_in (field_at 1 x)) (name_in (field_at 2 x)) (net_of (field_at 3 x)) (short_of (field_at 4 x)) (short_of (field_at 5 x))
+    (threshold_of (field_at 6 x)) (method_in (field_at 7 x))
 
 unfoldable pub box_of : List ℕ → Row
-box_of text =
-    let t1 = after_field text in let t2 = after_field t1 in let t3 = after_field t2 in let t4 = after_field t3 in
-    let t5 = after_field t4 in let t6 = after_field t5 in
-    BoxLine (short_of (field_of t1)) (short_of (field_of t2)) (short_of (field_of t3)) (box_word_of (field_of t4)) (order_of (field_of t5))
-    (ohms_of (field_of t6))
+box_of x = BoxLine (short_of (field_at 1 x)) (short_of (field_at 2 x)) (short_of (field_at 3 x)) (box_word_of (field_at 4 x)) (order_of (field_at 5 x))
+    (ohms_of (field_at 6 x))
 
 unfoldable pub region_of : List ℕ → Row
-region_of text =
-    let t1 = after_field text in let t2 = after_field t1 in let t3 = after_field t2 in let t4 = after_field t3 in
-    let t5 = after_field t4 in let t6 = after_field t5 in let t7 = after_field t6 in let t8 = after_field t7 in let t9 = after_field t8 in
-    Region (short_of (field_of t1)) (short_of (field_of t2)) (short_of (field_of t3)) (long_of (field_of t4)) (long_of (field_of t5))
-    (short_of (field_of t6)) (short_of (field_of t7)) (order_of (field_of t8)) (ohms_of (field_of t9))
+region_of x = Region (short_of (field_at 1 x)) (short_of (field_at 2 x)) (short_of (field_at 3 x)) (long_of (field_at 4 x)) (long_of (field_at 5 x))
+    (short_of (field_at 6 x)) (short_of (field_at 7 x)) (order_of (field_at 8 x)) (ohms_of (field_at 9 x))
 
 unfoldable pub summary_of : List ℕ → Row
-summary_of text =
-    let t1 = after_field text in let t2 = after_field t1 in let t3 = after_field t2 in let t4 = after_field t3 in
-    let t5 = after_field t4 in let t6 = after_field t5 in
-    Summary (name_in (field_of t1)) (short_of (field_of t2)) (short_of (field_of t3)) (short_of (field_of t4)) (short_of (field_of t5))
-    (short_of (field_of t6))
+summary_of x = Summary (name_in (field_at 1 x)) (short_of (field_at 2 x)) (short_of (field_at 3 x)) (short_of (field_at 4 x)) (short_of (field_at 5 x))
+    (short_of (field_at 6 x))
 
 unfoldable pub end_of : List ℕ → Row
-end_of text = End (short_of (field_of (after_field text)))
+end_of x = End (short_of (field_at 1 x))
 
 -- the row that a text begins with, if it begins with one
 unfoldable pub row_of : List ℕ → Row

@@ -1,7 +1,9 @@
 -- Which bytes are a report, and the first line at which they aren't one.
 use Rattle.std.specs.Prelude.{◌≡◌, ℕ, ◌+◌, ◌<◌, ◌^◌, pos, ◌<ℤ◌, unsigned_abs, IsTrue, List, [], ◌∷◌, ◌++◌, length, Option, Some, None}
 use Rattle.study_model.specs.NameText.{is_name}
-use Rattle.scan_report.specs.Rows.{row_text, IsOhms}
+use Rattle.scan_report.specs.Rows.{fields_of, row_text, IsOhms}
+use Rattle.scan_report.specs.declared.fields.Field.{Field}
+use Rattle.scan_report.specs.declared.fields.Field.TheVariants as field
 use Rattle.scan_report.specs.declared.rows.Row.{Row}
 use Rattle.scan_report.specs.declared.rows.Row.TheVariants.{Scan, BoxLine, Region, Summary, End}
 use Rattle.scan_report.specs.declared.reading.ReportFault.{ReportFault}
@@ -28,27 +30,35 @@ MayStand within (Summary name boxes cleared peaks undecided regions) = Unit {0}
 MayStand _ _ = ⊥
 
 abbrev pub stage_after : Row → Stage
-stage_after (Scan name bus network from to threshold method) = within
-stage_after (BoxLine number lo hi word at micro_ohms) = within
-stage_after (Region number lo hi hertz_lo hertz_hi peaks undecided at micro_ohms) = within
 stage_after (Summary name boxes cleared peaks undecided regions) = between
 stage_after (End status) = ended
+stage_after _ = within
 
 -- a number of 32 bits, or none
 abbrev pub IsShort : Option ℕ → Type 0
 IsShort None = Unit {0}
 IsShort (Some n) = n < 2 ^ 32
 
--- a row whose names, numbers and ohms are in the ranges of their fields
+-- a field in the range of its kind
+abbrev pub IsField : Field → Type 0
+IsField (field.Name name) = IsTrue (is_name name)
+IsField (field.Number number) = number < 2 ^ 32
+IsField (field.Order order) = order < 2 ^ 32
+IsField (field.Hertz hertz) = hertz < 2 ^ 64
+IsField (field.Threshold ohms) = (pos 0 <ℤ ohms) × (unsigned_abs ohms < 10 ^ 12)
+IsField (field.At order) = IsShort order
+IsField (field.Bound micro_ohms) = IsOhms micro_ohms
+IsField (field.Network word) = Unit {0}
+IsField (field.Found word) = Unit {0}
+IsField (field.Method method) = Unit {0}
+
+abbrev pub AreFields : List Field → Type 0
+AreFields [] = Unit {0}
+AreFields (f ∷ fs) = IsField f × AreFields fs
+
+-- a row each of whose fields is in the range of its kind
 abbrev pub IsRow : Row → Type 0
-IsRow (Scan name bus network from to threshold method) =
-    IsTrue (is_name name) × IsTrue (is_name bus) × (from < 2 ^ 32) × (to < 2 ^ 32) × (pos 0 <ℤ threshold) × (unsigned_abs threshold < 10 ^ 12)
-IsRow (BoxLine number lo hi word at micro_ohms) = (number < 2 ^ 32) × (lo < 2 ^ 32) × (hi < 2 ^ 32) × IsShort at × IsOhms micro_ohms
-IsRow (Region number lo hi hertz_lo hertz_hi peaks undecided at micro_ohms) =
-    (number < 2 ^ 32) × (lo < 2 ^ 32) × (hi < 2 ^ 32) × (hertz_lo < 2 ^ 64) × (hertz_hi < 2 ^ 64) × (peaks < 2 ^ 32) × (undecided < 2 ^ 32) × IsShort at × IsOhms micro_ohms
-IsRow (Summary name boxes cleared peaks undecided regions) =
-    IsTrue (is_name name) × (boxes < 2 ^ 32) × (cleared < 2 ^ 32) × (peaks < 2 ^ 32) × (undecided < 2 ^ 32) × (regions < 2 ^ 32)
-IsRow (End status) = status < 2 ^ 32
+IsRow r = AreFields (fields_of r)
 
 -- rows each of which may stand where the one before it leads
 pub data IsInOrder : Stage → List Row → Stage → Type 0 where
@@ -75,3 +85,7 @@ pub record IsBadAt (bytes : List ℕ) (line : ℕ) : Type 0 where
 abbrev pub BadLine : List ℕ → ReportFault → Type 0
 BadLine bytes (BadRow line) = IsBadAt bytes line
 BadLine bytes NoMemory = ⊥
+
+-- bytes that are a report have no bad line
+abbrev pub NoReportIsBad : Type 0
+NoReportIsBad = (bytes : List ℕ) (rows : List Row) (line : ℕ) → IsReport bytes rows → ¬ (IsBadAt bytes line)

@@ -1,7 +1,7 @@
 // The fields of a row, read loosely: each text gives some value, and a field's own text gives its value.
 ghost use Rattle.std.specs.Prelude.{◌≡◌, ◌≤◌, [], ◌∷◌, length};
 ghost use Rattle.std.specs.List.{prefix_len};
-ghost use Rattle.scan_report.specs.Loose.{is_inner, field_of, after_field, digit_on, number_of, first_of, second_of, short_of, long_of, order_of, ohms_of, threshold_of, name_in, net_of, box_word_of, method_in};
+ghost use Rattle.scan_report.specs.Loose.{is_inner, field_of, after_field, field_at, digit_on, number_of, first_of, second_of, short_of, long_of, order_of, ohms_of, threshold_of, name_in, net_of, box_word_of, method_in};
 
 use crate::rows::{BoxWord, NetWord};
 use fixed_decimal::Decimal;
@@ -25,14 +25,14 @@ fn field_len(text: &[u8]) -> usize
 }
 
 #[tactic(auto, unfolding(crate::specs::Loose::field_of))]
-pub(crate) fn field_of(text: &[u8]) -> &[u8]
+fn field_of(text: &[u8]) -> &[u8]
     ensures { result.now ≡ field_of text.now }
 {
     &text[..field_len(text)]
 }
 
 #[tactic(auto, unfolding(crate::specs::Loose::after_field))]
-pub(crate) fn after_field(text: &[u8]) -> &[u8]
+fn after_field(text: &[u8]) -> &[u8]
     ensures { result.now ≡ after_field text.now }
 {
     let len = field_len(text);
@@ -40,6 +40,17 @@ pub(crate) fn after_field(text: &[u8]) -> &[u8]
         &text[len + 1..]
     } else {
         &text[text.len()..]
+    }
+}
+
+/// The field of a text that has this number, its word being 0.
+pub(crate) fn field_at(text: &[u8], number: u32) -> &[u8]
+    ensures { result.now ≡ field_at number text.now }
+{
+    if number == 0 {
+        field_of(text)
+    } else {
+        field_at(after_field(text), number - 1)
     }
 }
 

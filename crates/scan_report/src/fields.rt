@@ -1,62 +1,67 @@
-// The fields of a row: words, names and numbers, each at the end of a line.
-ghost use Rattle.std.specs.Prelude.{◌≡◌, ◌≤◌, ◌+◌, ◌++◌, ◌≤ℤ◌, pos, unsigned_abs, length};
-ghost use Rattle.scan_report.specs.Text.{places};
-ghost use Rattle.scan_report.specs.Rows.{IsOhms, box_word, net_word, method_word, order_or_dash, ohms_or_dash};
+// The fields of a row: what kinds there are, and each one's text.
+ghost use Rattle.std.specs.Prelude.{◌≡◌, ◌≤◌, ◌+◌, ◌++◌, length};
+ghost use Rattle.scan_report.specs.Fields.{net_word, box_word, order_or_dash, ohms_or_dash, field_text, fields_text, most_of, most_of_all};
+ghost use Rattle.scan_report.specs.Rows.{IsOhms, HasFieldText, HaveText};
 
-use crate::line::{LineBuf, push_places};
+use crate::line::{LineBuf, push_millionths, push_number, push_places};
 use crate::rows::{BoxWord, NetWord};
 use fixed_decimal::Decimal;
 use study_model::{Method, Name};
 
-pub(crate) fn push_box_word(line: &mut LineBuf, word: BoxWord)
-    requires { length line.old + 9 ≤ 256 }
-    ensures text { line.new ≡ line.old ++ box_word word }
-    ensures len { length line.new ≤ length line.old + 9 }
+/// A field of a row. Orders, hertz and ohms are in millionths.
+#[derive(Clone, Copy)]
+pub enum Field {
+    Name(Name),
+    Number(u32),
+    Order(u32),
+    Hertz(u64),
+    Threshold(Decimal),
+    /// An order, or none.
+    At(Option<u32>),
+    /// Ohms, or none.
+    Bound(Option<i128>),
+    Network(NetWord),
+    Found(BoxWord),
+    Method(Method),
+}
+
+fn net_text(word: NetWord) -> &'static [u8]
+    ensures text { result.now ≡ net_word word }
+    ensures len { length result.now ≤ 8 }
 {
     match word {
-        BoxWord::Cleared => line.push_text(b"cleared"),
-        BoxWord::Peak => line.push_text(b"peak"),
-        BoxWord::Undecided => line.push_text(b"undecided"),
+        NetWord::Positive => b"positive",
+        NetWord::Zero => b"zero",
+        NetWord::A => b"a",
+        NetWord::B => b"b",
+        NetWord::C => b"c",
     }
 }
 
-pub(crate) fn push_net_word(line: &mut LineBuf, word: NetWord)
-    requires { length line.old + 8 ≤ 256 }
-    ensures text { line.new ≡ line.old ++ net_word word }
-    ensures len { length line.new ≤ length line.old + 8 }
+fn box_text(word: BoxWord) -> &'static [u8]
+    ensures text { result.now ≡ box_word word }
+    ensures len { length result.now ≤ 9 }
 {
     match word {
-        NetWord::Positive => line.push_text(b"positive"),
-        NetWord::Zero => line.push_text(b"zero"),
-        NetWord::A => line.push(b'a'),
-        NetWord::B => line.push(b'b'),
-        NetWord::C => line.push(b'c'),
+        BoxWord::Cleared => b"cleared",
+        BoxWord::Peak => b"peak",
+        BoxWord::Undecided => b"undecided",
     }
 }
 
-pub(crate) fn push_method(line: &mut LineBuf, method: Method)
-    requires { length line.old + 11 ≤ 256 }
-    ensures text { line.new ≡ line.old ++ method_word method }
-    ensures len { length line.new ≤ length line.old + 11 }
-{
-    match method {
-        Method::Elimination => line.push_text(b"elimination"),
-        Method::Both => line.push_text(b"both"),
-    }
-}
-
-pub(crate) fn push_at(line: &mut LineBuf, at: Option<u32>)
-    requires { length line.old + 38 ≤ 256 }
+fn push_at(line: &mut LineBuf, at: Option<u32>)
+    requires { length line.old + 21 ≤ 256 }
     ensures text { line.new ≡ line.old ++ order_or_dash at }
-    ensures len { length line.new ≤ length line.old + 38 }
+    ensures len { length line.new ≤ length line.old + 21 }
 {
     match at {
-        Some(at) => push_places(line, u128::from(at)),
+        Some(at) => push_millionths(line, u64::from(at)),
         None => line.push(b'-'),
     }
 }
 
-pub(crate) fn push_ohms(line: &mut LineBuf, ohms: Option<i128>)
+#[tactic(auto, using(crate::proofs::Digits::length_wide))]
+fn push_ohms(line: &mut LineBuf, ohms: Option<i128>)
     requires range { IsOhms ohms }
     requires room { length line.old + 38 ≤ 256 }
     ensures text { line.new ≡ line.old ++ ohms_or_dash ohms }
@@ -68,19 +73,52 @@ pub(crate) fn push_ohms(line: &mut LineBuf, ohms: Option<i128>)
     }
 }
 
-pub(crate) fn push_decimal(line: &mut LineBuf, decimal: &Decimal)
-    requires positive { pos 0 ≤ℤ decimal.now }
-    requires room { length line.old + 38 ≤ 256 }
-    ensures text { line.new ≡ line.old ++ places (unsigned_abs decimal.now) }
-    ensures len { length line.new ≤ length line.old + 38 }
+/// Puts a field's text at the end.
+fn push_field(line: &mut LineBuf, field: &Field)
+    requires has { HasFieldText field.now }
+    requires room { length line.old + most_of field.now ≤ 256 }
+    ensures text { line.new ≡ line.old ++ field_text field.now }
+    ensures len { length line.new ≤ length line.old + most_of field.now }
 {
-    push_places(line, u128::from(decimal.millionths.unsigned_abs()));
+    match field {
+        Field::Name(name) => line.push_text(name.as_bytes()),
+        Field::Number(number) => push_number(line, *number),
+        Field::Order(order) => push_millionths(line, u64::from(*order)),
+        Field::Hertz(hertz) => push_millionths(line, *hertz),
+        Field::Threshold(ohms) => push_millionths(line, ohms.millionths.unsigned_abs()),
+        Field::At(order) => push_at(line, *order),
+        Field::Bound(ohms) => push_ohms(line, *ohms),
+        Field::Network(word) => line.push_text(net_text(*word)),
+        Field::Found(word) => line.push_text(box_text(*word)),
+        Field::Method(method) => line.push_text(method.text().as_bytes()),
+    }
 }
 
-pub(crate) fn push_name(line: &mut LineBuf, name: &Name)
-    requires { length line.old + 32 ≤ 256 }
-    ensures text { line.new ≡ line.old ++ name.now }
-    ensures len { length line.new ≤ length line.old + 32 }
+/// Puts each field after a comma at the end, and a line feed.
+fn push_fields(line: &mut LineBuf, fields: &[Field])
+    requires have { HaveText fields.now }
+    requires room { length line.old + most_of_all fields.now ≤ 256 }
+    ensures text { line.new ≡ line.old ++ fields_text fields.now }
+    ensures len { length line.new ≤ length line.old + most_of_all fields.now }
 {
-    line.push_text(name.as_bytes());
+    match fields {
+        [] => line.push(b'\n'),
+        [first, rest @ ..] => {
+            line.push(b',');
+            push_field(line, first);
+            push_fields(line, rest);
+        }
+    }
+}
+
+/// Sets the line to a word, each field after a comma, and a line feed.
+pub(crate) fn set_line(line: &mut LineBuf, word: &[u8], fields: &[Field])
+    requires have { HaveText fields.now }
+    requires room { length word.now + most_of_all fields.now ≤ 255 }
+    ensures text { line.new ≡ word.now ++ fields_text fields.now }
+    ensures len { length line.new ≤ 255 }
+{
+    line.clear();
+    line.push_text(word);
+    push_fields(line, fields);
 }

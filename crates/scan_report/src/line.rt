@@ -95,14 +95,12 @@ pub fn push_number(line: &mut LineBuf, number: u32)
     push_digits(line, u128::from(number));
 }
 
-/// A number of millionths, with six places.
-#[tactic(auto, using(crate::proofs::Digits::digits_steps))]
+/// A number of millionths, with six places. Condition: it fits in 256 bytes.
 pub(crate) fn push_places(line: &mut LineBuf, millionths: u128)
     requires small { millionths ≤ 2 ^ 120 }
-    requires room { length line.old + 38 ≤ 256 }
+    requires room { length line.old + length (decimal (millionths / 1000000)) + 7 ≤ 256 }
     ensures text { line.new ≡ line.old ++ places millionths }
-    ensures len { length line.new ≤ length line.old + 38 }
-    ensures exact { length line.new ≡ length line.old + length (decimal (millionths / 1000000)) + 7 }
+    ensures len { length line.new ≡ length line.old + length (decimal (millionths / 1000000)) + 7 }
 {
     push_digits(line, millionths / 1_000_000);
     let part = (millionths % 1_000_000) as u32;
@@ -120,7 +118,7 @@ pub(crate) fn push_places(line: &mut LineBuf, millionths: u128)
 /// A number of millionths of 64 bits, with six places: at most 21 bytes.
 #[tactic(auto, using(crate::proofs::Digits::length_millionths))]
 pub(crate) fn push_millionths(line: &mut LineBuf, millionths: u64)
-    requires { length line.old + 38 ≤ 256 }
+    requires { length line.old + 21 ≤ 256 }
     ensures text { line.new ≡ line.old ++ places millionths }
     ensures len { length line.new ≤ length line.old + 21 }
 {

@@ -3,8 +3,8 @@ ghost use Rattle.std.specs.Prelude.{◌≡◌};
 ghost use Rattle.scan_report.specs.Loose.{scan_of, box_of, region_of, summary_of, end_of, row_of};
 
 use crate::field_text::{
-    after_field, box_word_of, field_of, first_of, long_of, method_in, name_in, net_of, ohms_of,
-    order_of, second_of, short_of, threshold_of,
+    box_word_of, field_at, first_of, long_of, method_in, name_in, net_of, ohms_of, order_of,
+    second_of, short_of, threshold_of,
 };
 use crate::rows::Row;
 
@@ -12,21 +12,14 @@ use crate::rows::Row;
 fn scan_of(text: &[u8]) -> Row
     ensures { result ≡ scan_of text.now }
 {
-    let name = after_field(text);
-    let bus = after_field(name);
-    let network = after_field(bus);
-    let from = after_field(network);
-    let to = after_field(from);
-    let threshold = after_field(to);
-    let method = after_field(threshold);
     Row::Scan {
-        name: name_in(field_of(name)),
-        bus: name_in(field_of(bus)),
-        network: net_of(field_of(network)),
-        from: short_of(field_of(from)),
-        to: short_of(field_of(to)),
-        threshold: threshold_of(field_of(threshold)),
-        method: method_in(field_of(method)),
+        name: name_in(field_at(text, 1)),
+        bus: name_in(field_at(text, 2)),
+        network: net_of(field_at(text, 3)),
+        from: short_of(field_at(text, 4)),
+        to: short_of(field_at(text, 5)),
+        threshold: threshold_of(field_at(text, 6)),
+        method: method_in(field_at(text, 7)),
     }
 }
 
@@ -34,19 +27,13 @@ fn scan_of(text: &[u8]) -> Row
 fn box_of(text: &[u8]) -> Row
     ensures { result ≡ box_of text.now }
 {
-    let number = after_field(text);
-    let lo = after_field(number);
-    let hi = after_field(lo);
-    let word = after_field(hi);
-    let at = after_field(word);
-    let ohms = after_field(at);
     Row::BoxLine {
-        number: short_of(field_of(number)),
-        lo: short_of(field_of(lo)),
-        hi: short_of(field_of(hi)),
-        word: box_word_of(field_of(word)),
-        at: order_of(field_of(at)),
-        micro_ohms: ohms_of(field_of(ohms)),
+        number: short_of(field_at(text, 1)),
+        lo: short_of(field_at(text, 2)),
+        hi: short_of(field_at(text, 3)),
+        word: box_word_of(field_at(text, 4)),
+        at: order_of(field_at(text, 5)),
+        micro_ohms: ohms_of(field_at(text, 6)),
     }
 }
 
@@ -54,25 +41,16 @@ fn box_of(text: &[u8]) -> Row
 fn region_of(text: &[u8]) -> Row
     ensures { result ≡ region_of text.now }
 {
-    let number = after_field(text);
-    let lo = after_field(number);
-    let hi = after_field(lo);
-    let hertz_lo = after_field(hi);
-    let hertz_hi = after_field(hertz_lo);
-    let peaks = after_field(hertz_hi);
-    let undecided = after_field(peaks);
-    let at = after_field(undecided);
-    let ohms = after_field(at);
     Row::Region {
-        number: short_of(field_of(number)),
-        lo: short_of(field_of(lo)),
-        hi: short_of(field_of(hi)),
-        hertz_lo: long_of(field_of(hertz_lo)),
-        hertz_hi: long_of(field_of(hertz_hi)),
-        peaks: short_of(field_of(peaks)),
-        undecided: short_of(field_of(undecided)),
-        at: order_of(field_of(at)),
-        micro_ohms: ohms_of(field_of(ohms)),
+        number: short_of(field_at(text, 1)),
+        lo: short_of(field_at(text, 2)),
+        hi: short_of(field_at(text, 3)),
+        hertz_lo: long_of(field_at(text, 4)),
+        hertz_hi: long_of(field_at(text, 5)),
+        peaks: short_of(field_at(text, 6)),
+        undecided: short_of(field_at(text, 7)),
+        at: order_of(field_at(text, 8)),
+        micro_ohms: ohms_of(field_at(text, 9)),
     }
 }
 
@@ -80,19 +58,13 @@ fn region_of(text: &[u8]) -> Row
 fn summary_of(text: &[u8]) -> Row
     ensures { result ≡ summary_of text.now }
 {
-    let name = after_field(text);
-    let boxes = after_field(name);
-    let cleared = after_field(boxes);
-    let peaks = after_field(cleared);
-    let undecided = after_field(peaks);
-    let regions = after_field(undecided);
     Row::Summary {
-        name: name_in(field_of(name)),
-        boxes: short_of(field_of(boxes)),
-        cleared: short_of(field_of(cleared)),
-        peaks: short_of(field_of(peaks)),
-        undecided: short_of(field_of(undecided)),
-        regions: short_of(field_of(regions)),
+        name: name_in(field_at(text, 1)),
+        boxes: short_of(field_at(text, 2)),
+        cleared: short_of(field_at(text, 3)),
+        peaks: short_of(field_at(text, 4)),
+        undecided: short_of(field_at(text, 5)),
+        regions: short_of(field_at(text, 6)),
     }
 }
 
@@ -101,7 +73,7 @@ fn end_of(text: &[u8]) -> Row
     ensures { result ≡ end_of text.now }
 {
     Row::End {
-        status: short_of(field_of(after_field(text))),
+        status: short_of(field_at(text, 1)),
     }
 }
 

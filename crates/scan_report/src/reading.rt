@@ -1,7 +1,7 @@
 // Reports read back.
 ghost use Rattle.std.specs.Prelude.{◌≡◌, ◌≢◌, ◌<◌, ◌^◌, ◌↔◌, IsTrue, IfOk, IfErr, IfSome, IfNone, ℕ, List, [], ◌++◌, length, MatchOption};
 ghost use Rattle.scan_report.specs.Rows.{row_text};
-ghost use Rattle.scan_report.specs.Reading.{ended, MayStand, IsRow, IsReport, BadLine, stage_after};
+ghost use Rattle.scan_report.specs.Reading.{ended, MayStand, IsRow, IsReport, BadLine, NoReportIsBad, stage_after};
 ghost use Rattle.scan_report.specs.Stands.{stage_of, BeginsText, BeginsWith, BeginsWithNone};
 
 use crate::line::LineBuf;
@@ -9,6 +9,7 @@ use crate::loose::row_of;
 use crate::rows::{Row, box_row, end_row, region_row, scan_row, summary_row};
 use sqlite_items::Items;
 use std::alloc::Global;
+use thiserror::Error;
 
 /// The rows of a report.
 #[derive(Drop)]
@@ -17,10 +18,12 @@ pub struct Report {
 }
 
 /// Why a text is no report.
-#[derive(Clone, Copy, Debug, PartialEq, Eq)]
+#[derive(Clone, Copy, Debug, PartialEq, Eq, Error)]
 pub enum ReportFault {
     /// This line, from 1 on, is no row that may stand there.
+    #[error("line {0} is not a row that may stand there")]
     BadRow(u32),
+    #[error("no memory for the rows of the report")]
     NoMemory,
 }
 
@@ -53,9 +56,9 @@ fn stand_after(row: &Row) -> Stand
     ensures { stage_of result ≡ stage_after row.now }
 {
     match row {
-        Row::Scan { .. } | Row::BoxLine { .. } | Row::Region { .. } => Stand::Within,
         Row::Summary { .. } => Stand::Between,
         Row::End { .. } => Stand::Ended,
+        _ => Stand::Within,
     }
 }
 
@@ -134,3 +137,8 @@ pub fn read_report(alloc: Global, bytes: &[u8]) -> Result<Report, ReportFault>
         }
     }
 }
+
+/// Bytes that are a report have no bad line.
+pub fn no_report_is_bad()
+    ensures law { NoReportIsBad }
+{}

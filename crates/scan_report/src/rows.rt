@@ -1,11 +1,9 @@
 // The rows of a report, and the calls that write them.
-ghost use Rattle.std.specs.Prelude.{◌≡◌, ◌≤◌, length};
-ghost use Rattle.scan_report.specs.Rows.{row_text, IsBoxRow, IsRegionRow, IsScanRow, IsSummaryRow, IsEndRow};
+ghost use Rattle.std.specs.Prelude.{◌≡◌, ◌≤◌, length, codes};
+ghost use Rattle.scan_report.specs.Rows.{row_text, IsRowOf};
 
-use crate::fields::{
-    push_at, push_box_word, push_decimal, push_method, push_name, push_net_word, push_ohms,
-};
-use crate::line::{LineBuf, push_millionths, push_number, push_places};
+use crate::fields::{Field, set_line};
+use crate::line::LineBuf;
 use fixed_decimal::Decimal;
 use study_model::{Method, Name};
 
@@ -81,167 +79,141 @@ pub enum Row {
 /// Sets the line to the text of a scan's first row.
 /// Condition: the row is of its kind, and its threshold is above 0.
 pub fn scan_row(row: &Row, line: &mut LineBuf)
-    requires { IsScanRow row.now }
+    requires { IsRowOf (codes "scan") row.now }
     ensures text { line.new ≡ row_text row.now }
     ensures len { length line.new ≤ 255 }
 {
-    match row {
-        Row::Scan {
-            name,
-            bus,
-            network,
-            from,
-            to,
-            threshold,
-            method,
-        } => {
-            line.clear();
-            line.push_text(b"scan,");
-            push_name(line, name);
-            line.push(b',');
-            push_name(line, bus);
-            line.push(b',');
-            push_net_word(line, *network);
-            line.push(b',');
-            push_places(line, u128::from(*from));
-            line.push(b',');
-            push_places(line, u128::from(*to));
-            line.push(b',');
-            push_decimal(line, threshold);
-            line.push(b',');
-            push_method(line, *method);
-            line.push(b'\n');
-        }
-        _ => unreachable!(),
+    if let Row::Scan {
+        name,
+        bus,
+        network,
+        from,
+        to,
+        threshold,
+        method,
+    } = row
+    {
+        set_line(
+            line,
+            b"scan",
+            &[
+                Field::Name(*name),
+                Field::Name(*bus),
+                Field::Network(*network),
+                Field::Order(*from),
+                Field::Order(*to),
+                Field::Threshold(*threshold),
+                Field::Method(*method),
+            ],
+        );
     }
 }
 
 /// Sets the line to the text of a box.
 /// Condition: the row is of its kind, and its ohms, where it has some, are from 0 to 2^120.
 pub fn box_row(row: &Row, line: &mut LineBuf)
-    requires { IsBoxRow row.now }
+    requires { IsRowOf (codes "box") row.now }
     ensures text { line.new ≡ row_text row.now }
     ensures len { length line.new ≤ 255 }
 {
-    match row {
-        Row::BoxLine {
-            number,
-            lo,
-            hi,
-            word,
-            at,
-            micro_ohms,
-        } => {
-            line.clear();
-            line.push_text(b"box,");
-            push_number(line, *number);
-            line.push(b',');
-            push_places(line, u128::from(*lo));
-            line.push(b',');
-            push_places(line, u128::from(*hi));
-            line.push(b',');
-            push_box_word(line, *word);
-            line.push(b',');
-            push_at(line, *at);
-            line.push(b',');
-            push_ohms(line, *micro_ohms);
-            line.push(b'\n');
-        }
-        _ => unreachable!(),
+    if let Row::BoxLine {
+        number,
+        lo,
+        hi,
+        word,
+        at,
+        micro_ohms,
+    } = row
+    {
+        set_line(
+            line,
+            b"box",
+            &[
+                Field::Number(*number),
+                Field::Order(*lo),
+                Field::Order(*hi),
+                Field::Found(*word),
+                Field::At(*at),
+                Field::Bound(*micro_ohms),
+            ],
+        );
     }
 }
 
 /// Sets the line to the text of a region.
 /// Condition: the row is of its kind, and its ohms, where it has some, are from 0 to 2^120.
 pub fn region_row(row: &Row, line: &mut LineBuf)
-    requires { IsRegionRow row.now }
+    requires { IsRowOf (codes "region") row.now }
     ensures text { line.new ≡ row_text row.now }
     ensures len { length line.new ≤ 255 }
 {
-    match row {
-        Row::Region {
-            number,
-            lo,
-            hi,
-            hertz_lo,
-            hertz_hi,
-            peaks,
-            undecided,
-            at,
-            micro_ohms,
-        } => {
-            line.clear();
-            line.push_text(b"region,");
-            push_number(line, *number);
-            line.push(b',');
-            push_millionths(line, u64::from(*lo));
-            line.push(b',');
-            push_millionths(line, u64::from(*hi));
-            line.push(b',');
-            push_millionths(line, *hertz_lo);
-            line.push(b',');
-            push_millionths(line, *hertz_hi);
-            line.push(b',');
-            push_number(line, *peaks);
-            line.push(b',');
-            push_number(line, *undecided);
-            line.push(b',');
-            push_at(line, *at);
-            line.push(b',');
-            push_ohms(line, *micro_ohms);
-            line.push(b'\n');
-        }
-        _ => unreachable!(),
+    if let Row::Region {
+        number,
+        lo,
+        hi,
+        hertz_lo,
+        hertz_hi,
+        peaks,
+        undecided,
+        at,
+        micro_ohms,
+    } = row
+    {
+        set_line(
+            line,
+            b"region",
+            &[
+                Field::Number(*number),
+                Field::Order(*lo),
+                Field::Order(*hi),
+                Field::Hertz(*hertz_lo),
+                Field::Hertz(*hertz_hi),
+                Field::Number(*peaks),
+                Field::Number(*undecided),
+                Field::At(*at),
+                Field::Bound(*micro_ohms),
+            ],
+        );
     }
 }
 
 /// Sets the line to the text of a scan's last row. Condition: the row is of its kind.
 pub fn summary_row(row: &Row, line: &mut LineBuf)
-    requires { IsSummaryRow row.now }
+    requires { IsRowOf (codes "summary") row.now }
     ensures text { line.new ≡ row_text row.now }
     ensures len { length line.new ≤ 255 }
 {
-    match row {
-        Row::Summary {
-            name,
-            boxes,
-            cleared,
-            peaks,
-            undecided,
-            regions,
-        } => {
-            line.clear();
-            line.push_text(b"summary,");
-            push_name(line, name);
-            line.push(b',');
-            push_number(line, *boxes);
-            line.push(b',');
-            push_number(line, *cleared);
-            line.push(b',');
-            push_number(line, *peaks);
-            line.push(b',');
-            push_number(line, *undecided);
-            line.push(b',');
-            push_number(line, *regions);
-            line.push(b'\n');
-        }
-        _ => unreachable!(),
+    if let Row::Summary {
+        name,
+        boxes,
+        cleared,
+        peaks,
+        undecided,
+        regions,
+    } = row
+    {
+        set_line(
+            line,
+            b"summary",
+            &[
+                Field::Name(*name),
+                Field::Number(*boxes),
+                Field::Number(*cleared),
+                Field::Number(*peaks),
+                Field::Number(*undecided),
+                Field::Number(*regions),
+            ],
+        );
     }
 }
 
 /// Sets the line to the text of a report's last row. Condition: the row is of its kind.
 pub fn end_row(row: &Row, line: &mut LineBuf)
-    requires { IsEndRow row.now }
+    requires { IsRowOf (codes "end") row.now }
     ensures text { line.new ≡ row_text row.now }
     ensures len { length line.new ≤ 255 }
 {
-    match row {
-        Row::End { status } => {
-            line.clear();
-            line.push_text(b"end,");
-            push_number(line, *status);
-            line.push(b'\n');
-        }
-        _ => unreachable!(),
+    if let Row::End { status } = row {
+        set_line(line, b"end", &[Field::Number(*status)]);
     }
 }

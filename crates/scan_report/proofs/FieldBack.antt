@@ -1,0 +1,224 @@
+-- A field of a text, read as a field of its kind.
+use Rattle.std.proofs.Common.{◌≡◌, ◌∙◌, ap, ℕ, ◌^◌, ◌≤◌, ◌<◌, Bool, true, false, List, [], ◌∷◌, ◌++◌, drop, min, max, refl, arith, append_assoc, ℤ, pos, negsuc, ◌<ℤ◌}
+use Rattle.std.proofs.lemmas.Int.{ints}
+use Rattle.std.specs.Prelude.{◌==◌, if◌then◌else◌, unsigned_abs, Option, Some, None}
+use Rattle.std.specs.Fmt.{decimal}
+use Rattle.study_model.specs.NameText.{is_name}
+use Rattle.study_model.specs.ValueWords.{method_text}
+use Rattle.study_model.specs.declared.words.Method.{Method}
+use Rattle.study_model.specs.declared.words.Method.TheVariants.{Elimination, Both}
+use Rattle.scan_report.specs.declared.rows.NetWord.{NetWord}
+use Rattle.scan_report.specs.declared.rows.NetWord.TheVariants.{Positive, Zero, A, B, C}
+use Rattle.scan_report.specs.declared.rows.BoxWord.{BoxWord}
+use Rattle.scan_report.specs.declared.rows.BoxWord.TheVariants.{Cleared, Peak, Undecided}
+use Rattle.scan_report.specs.declared.fields.Field.{Field}
+use Rattle.scan_report.specs.declared.fields.Field.TheVariants as field
+use Rattle.scan_report.specs.Text.{places}
+use Rattle.scan_report.specs.Fields.{net_word, box_word, order_or_dash, ohms_or_dash, field_text, fields_text}
+use Rattle.scan_report.specs.Rows.{IsOhms}
+use Rattle.scan_report.specs.Reading.{IsShort, IsField, AreFields}
+use Rattle.scan_report.specs.Loose.{field_of, after_field, first_of, number_of, short_of, long_of, order_of, ohms_of, threshold_of, name_in, net_of, box_word_of, method_in}
+use Rattle.scan_report.proofs.Fronts.{Inner, Inner-decimal, Inner-places, Inner-name, Reads-decimal, Reads-places, number_is, places_no_dash, field_front, after_front}
+
+-- a text read as a field of the kind of another
+abbrev pub read_as : Field → List ℕ → Field
+read_as (field.Name name) x = field.Name (name_in x)
+read_as (field.Number number) x = field.Number (short_of x)
+read_as (field.Order order) x = field.Order (short_of x)
+read_as (field.Hertz hertz) x = field.Hertz (long_of x)
+read_as (field.Threshold ohms) x = field.Threshold (threshold_of x)
+read_as (field.At order) x = field.At (order_of x)
+read_as (field.Bound ohms) x = field.Bound (ohms_of x)
+read_as (field.Network word) x = field.Network (net_of x)
+read_as (field.Found word) x = field.Found (box_word_of x)
+read_as (field.Method method) x = field.Method (method_in x)
+
+-- the fields of a text, each of the kind of one of these
+abbrev pub fields_in : List Field → List ℕ → List Field
+fields_in [] x = []
+fields_in (f ∷ fs) x = read_as f (field_of x) ∷ fields_in fs (after_field x)
+
+-- each kind of field
+short_decimal : (n : ℕ) → n < 2 ^ 32 → short_of (decimal n) ≡ n
+unfolding short_of
+short_decimal n h = rw (number_is (decimal n) n (Reads-decimal n (omega arith)) (omega arith)) (omega arith)
+
+short_places : (n : ℕ) → n < 2 ^ 32 → short_of (places n) ≡ n
+unfolding short_of
+short_places n h = rw (number_is (places n) n (Reads-places n (omega arith)) (omega arith)) (omega arith)
+
+long_places : (n : ℕ) → n < 2 ^ 64 → long_of (places n) ≡ n
+unfolding long_of
+long_places n h = rw (number_is (places n) n (Reads-places n (omega arith)) (omega arith)) (omega arith)
+
+order_back : (at : Option ℕ) → IsShort at → order_of (order_or_dash at) ≡ at
+unfolding order_of
+order_back None h = refl
+order_back (Some n) h = rw (places_no_dash n (omega arith), short_places n h) refl
+
+ohms_back : (ohms : Option ℤ) → IsOhms ohms → ohms_of (ohms_or_dash ohms) ≡ ohms
+unfolding ohms_of
+ohms_back None h = refl
+ohms_back (Some (pos n)) h =
+    let e : min n (2 ^ 120) ≡ n = omega arith in
+    rw (places_no_dash n (omega arith), number_is (places n) n (Reads-places n (omega arith)) (omega arith), e) refl
+ohms_back (Some (negsuc n)) h = absurd h
+
+threshold_back : (t : ℤ) → pos 0 <ℤ t → unsigned_abs t < 10 ^ 12 → threshold_of (places (unsigned_abs t)) ≡ t
+unfolding threshold_of
+threshold_back (pos n) some small =
+    let big : 1 ≤ n = omega (arith, ints) in
+    let e : max 1 (min n 999999999999) ≡ n = omega arith in
+    rw (number_is (places n) n (Reads-places n (omega arith)) (omega arith), e) refl
+threshold_back (negsuc n) some small = absurd (omega (arith, ints))
+
+name_back : (x : List ℕ) → is_name x ≡ true → name_in x ≡ x
+unfolding name_in
+name_back x h = rw h refl
+
+net_back : (w : NetWord) → net_of (net_word w) ≡ w
+unfolding net_of
+net_back Positive = refl
+net_back Zero = refl
+net_back A = refl
+net_back B = refl
+net_back C = refl
+
+box_word_back : (w : BoxWord) → box_word_of (box_word w) ≡ w
+unfolding box_word_of
+box_word_back Cleared = refl
+box_word_back Peak = refl
+box_word_back Undecided = refl
+
+method_back : (m : Method) → method_in (method_text m) ≡ m
+unfolding method_in
+method_back Elimination = refl
+method_back Both = refl
+
+-- each kind of field has no byte that ends one
+inner_net : (w : NetWord) → Inner (net_word w)
+inner_net Positive = record { is = refl }
+inner_net Zero = record { is = refl }
+inner_net A = record { is = refl }
+inner_net B = record { is = refl }
+inner_net C = record { is = refl }
+
+inner_box_word : (w : BoxWord) → Inner (box_word w)
+inner_box_word Cleared = record { is = refl }
+inner_box_word Peak = record { is = refl }
+inner_box_word Undecided = record { is = refl }
+
+inner_method : (m : Method) → Inner (method_text m)
+inner_method Elimination = record { is = refl }
+inner_method Both = record { is = refl }
+
+inner_order : (at : Option ℕ) → IsShort at → Inner (order_or_dash at)
+inner_order None h = record { is = refl }
+inner_order (Some n) h = Inner-places n (omega arith)
+
+inner_ohms : (ohms : Option ℤ) → IsOhms ohms → Inner (ohms_or_dash ohms)
+inner_ohms None h = record { is = refl }
+inner_ohms (Some (pos n)) h = Inner-places n (omega arith)
+inner_ohms (Some (negsuc n)) h = absurd h
+
+inner_field : (f : Field) → IsField f → Inner (field_text f)
+inner_field (field.Name name) h = Inner-name name h
+inner_field (field.Number number) h = Inner-decimal number (omega arith)
+inner_field (field.Order order) h = Inner-places order (omega arith)
+inner_field (field.Hertz hertz) h = Inner-places hertz (omega arith)
+inner_field (field.Threshold ohms) h = let small : unsigned_abs ohms < 10 ^ 12 = h.1 in Inner-places (unsigned_abs ohms) (omega arith)
+inner_field (field.At order) h = inner_order order h
+inner_field (field.Bound ohms) h = inner_ohms ohms h
+inner_field (field.Network word) h = inner_net word
+inner_field (field.Found word) h = inner_box_word word
+inner_field (field.Method method) h = inner_method method
+
+-- A field's own text is read as the field.
+field_back : (f : Field) → IsField f → read_as f (field_text f) ≡ f
+field_back (field.Name name) h = ap (λ x. field.Name x) (name_back name h)
+field_back (field.Number number) h = ap (λ x. field.Number x) (short_decimal number h)
+field_back (field.Order order) h = ap (λ x. field.Order x) (short_places order h)
+field_back (field.Hertz hertz) h = ap (λ x. field.Hertz x) (long_places hertz h)
+field_back (field.Threshold ohms) h = ap (λ x. field.Threshold x) (threshold_back ohms h.0 h.1)
+field_back (field.At order) h = ap (λ x. field.At x) (order_back order h)
+field_back (field.Bound ohms) h = ap (λ x. field.Bound x) (ohms_back ohms h)
+field_back (field.Network word) h = ap (λ x. field.Network x) (net_back word)
+field_back (field.Found word) h = ap (λ x. field.Found x) (box_word_back word)
+field_back (field.Method method) h = ap (λ x. field.Method x) (method_back method)
+
+-- what is read of any text is in its range
+short_lt : (x : List ℕ) → short_of x < 2 ^ 32
+unfolding short_of
+short_lt x = omega arith
+
+long_lt : (x : List ℕ) → long_of x < 2 ^ 64
+unfolding long_of
+long_lt x = omega arith
+
+order_short : (x : List ℕ) → IsShort (order_of x)
+unfolding order_of
+order_short x = elim (first_of x == 45) as (λ b. IsShort (if b then None else Some (short_of x))) [ true ↦ tt | false ↦ short_lt x ]
+
+ohms_are : (x : List ℕ) → IsOhms (ohms_of x)
+unfolding ohms_of
+ohms_are x = elim (first_of x == 45) as (λ b. IsOhms (if b then None else Some (pos (min (number_of x) (2 ^ 120))))) [ true ↦ tt | false ↦ omega arith ]
+
+name_by : (b : Bool) (x : List ℕ) → is_name x ≡ b → is_name (if b then x else 97 ∷ []) ≡ true
+name_by true x h = h
+name_by false x h = refl
+
+name_is : (x : List ℕ) → is_name (name_in x) ≡ true
+unfolding name_in
+name_is x = name_by (is_name x) x refl
+
+threshold_some : (x : List ℕ) → pos 0 <ℤ threshold_of x
+unfolding threshold_of
+threshold_some x = omega (arith, ints)
+
+threshold_small : (x : List ℕ) → unsigned_abs (threshold_of x) < 10 ^ 12
+unfolding threshold_of
+threshold_small x = omega arith
+
+field_is : (f : Field) (x : List ℕ) → IsField (read_as f x)
+field_is (field.Name name) x = name_is x
+field_is (field.Number number) x = short_lt x
+field_is (field.Order order) x = short_lt x
+field_is (field.Hertz hertz) x = long_lt x
+field_is (field.Threshold ohms) x = (threshold_some x, threshold_small x)
+field_is (field.At order) x = order_short x
+field_is (field.Bound ohms) x = ohms_are x
+field_is (field.Network word) x = tt
+field_is (field.Found word) x = tt
+field_is (field.Method method) x = tt
+
+pub fields_are : (fs : List Field) (x : List ℕ) → AreFields (fields_in fs x)
+fields_are [] x = tt
+fields_are (f ∷ fs) x = (field_is f (field_of x), fields_are fs (after_field x))
+
+-- each field after a comma, a line feed, and what follows
+abbrev pub fields_with : List Field → List ℕ → List ℕ
+fields_with [] tail = 10 ∷ tail
+fields_with (f ∷ fs) tail = 44 ∷ (field_text f ++ fields_with fs tail)
+
+pub with_tail : (fs : List Field) (tail : List ℕ) → fields_text fs ++ tail ≡ fields_with fs tail
+with_tail [] tail = refl
+with_tail (f ∷ fs) tail = ap (λ x. 44 ∷ x) (append_assoc (field_text f) (fields_text fs) tail ∙ ap (λ x. field_text f ++ x) (with_tail fs tail))
+
+field_ends : (x : List ℕ) (fs : List Field) (tail : List ℕ) → Inner x → field_of (x ++ fields_with fs tail) ≡ x
+field_ends x [] tail h = field_front x tail 10 h refl
+field_ends x (f ∷ fs) tail h = field_front x (field_text f ++ fields_with fs tail) 44 h refl
+
+pub field_passed : (x : List ℕ) (fs : List Field) (tail : List ℕ) → Inner x → after_field (x ++ fields_with fs tail) ≡ drop 1 (fields_with fs tail)
+field_passed x [] tail h = after_front x tail 10 h refl
+field_passed x (f ∷ fs) tail h = after_front x (field_text f ++ fields_with fs tail) 44 h refl
+
+-- The fields of a row's own text are the row's.
+pub fields_back : (fs : List Field) (tail : List ℕ) → AreFields fs → fields_in fs (drop 1 (fields_with fs tail)) ≡ fs
+fields_back [] tail h = refl
+fields_back (f ∷ fs) tail h =
+    let inner : Inner (field_text f) = inner_field f h.0 in
+    let text : List ℕ = field_text f ++ fields_with fs tail in
+    ap (λ x. read_as f x ∷ fields_in fs (after_field text)) (field_ends (field_text f) fs tail inner)
+    ∙ ap (λ x. read_as f (field_text f) ∷ fields_in fs x) (field_passed (field_text f) fs tail inner)
+    ∙ ap (λ x. x ∷ fields_in fs (drop 1 (fields_with fs tail))) (field_back f h.0)
+    ∙ ap (λ x. f ∷ x) (fields_back fs tail h.1)
