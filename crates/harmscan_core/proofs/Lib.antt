@@ -9,4 +9,4 @@ pub mod StudyFacts
 pub mod WholeReport
 pub mod Written
 pub mod Plans
-pub mod RegionLaw
+pub mod Folds

@@ -12,13 +12,14 @@ use Rattle.study_model.specs.Lawful.{IsLawful, IsLawfulScan}
 use Rattle.study_model.specs.declared.records.ScanItem.{ScanItem}
 use Rattle.study_model.specs.declared.records.Study.{Study}
 use Rattle.harmscan_core.specs.Scan.{boxes_in}
-use Rattle.harmscan_core.specs.Report.{tallied, no_tally, found_too, found_in, nothing_found}
+use Rattle.harmscan_core.specs.Fold.{most_boxes, tallied, no_tally, found_too, found_in, nothing_found, found_over}
 use Rattle.harmscan_core.specs.Texts.{scan_text, scans_text}
 use Rattle.harmscan_core.specs.Plan.{CanScan, IsPlanned, IsPlan}
 use Rattle.harmscan_core.specs.declared.counts.Counts.{Counts}
 use Rattle.harmscan_core.specs.declared.counts.Found.{Found}
 use Rattle.harmscan_core.specs.declared.plan.PlannedScan.{PlannedScan}
 use Rattle.harmscan_core.proofs.StudyFacts.{scan_texts, scan_few}
+use Rattle.harmscan_core.proofs.Folds.{found_is}
 
 abbrev pub scans_of : {E : Type 0} → List (PlannedScan E) → List ScanItem
 scans_of plan = map (λ planned. planned.scan) plan
@@ -28,14 +29,14 @@ pub record Putting {E : Type 0} (study : Study) (plan : List (PlannedScan E)) (f
   pub lawful : AllByRecursion (IsLawfulScan study.model study.buses) (scans_of plan)
   pub each : AllByRecursion (IsPlanned study) plan
   pub wrote : WroteFront before now (scans_text study (scans_of plan)) (scans_text study study.scans)
-  pub counts : found_in study found (scans_of plan) ≡ found_in study nothing_found study.scans
+  pub counts : found_in study found (scans_of plan) ≡ found_over study
 
 pub putting_start : {E : Type 0} (study : Study) (plan : List (PlannedScan E)) (out : SinkState) → IsLawful study → IsPlan study plan → Putting study plan nothing_found out out
 putting_start {E} study plan out lawful is = record {
   lawful = subst (AllByRecursion (IsLawfulScan study.model study.buses)) (sym is.scans) (recursion_from_All (IsLawfulScan study.model study.buses) study.scans lawful.scans);
   each = is.each;
   wrote = subst (λ (l : List ScanItem). WroteFront out out (scans_text study l) (scans_text study study.scans)) (sym is.scans) (front_start out (scans_text study study.scans));
-  counts = ap (found_in study nothing_found) is.scans;
+  counts = ap (found_in study nothing_found) is.scans ∙ found_is study;
 }
 
 -- the next scan of a plan
@@ -43,7 +44,7 @@ pub record Next {E : Type 0} (study : Study) (planned : PlannedScan E) : Type 0 
   pub lawful : IsLawfulScan study.model study.buses planned.scan
   pub boxes : planned.walk.left ≡ boxes_in study planned.scan
   pub texts : AllByRecursion HasText planned.walk.left
-  pub few : length planned.walk.left < 4294967295
+  pub few : length planned.walk.left < most_boxes
 
 pub putting_first : {E : Type 0} (study : Study) (plan : List (PlannedScan E)) (planned : PlannedScan E) (rest : List (PlannedScan E)) (found : Found) (before now : SinkState) → IsLawful study
     → plan ≡ planned ∷ rest → Putting study plan found before now → Next study planned
@@ -54,7 +55,7 @@ putting_first {E} study plan planned rest found before now lawful e p =
       lawful = q.lawful.0;
       boxes = boxes;
       texts = subst (AllByRecursion HasText) (sym boxes) (scan_texts study planned.scan lawful q.lawful.0);
-      few = subst (λ (l : List BoxRow). length l < 4294967295) (sym boxes) (scan_few study planned.scan lawful q.lawful.0);
+      few = subst (λ (l : List BoxRow). length l < most_boxes) (sym boxes) (scan_few study planned.scan lawful q.lawful.0);
     }
 
 -- it was written
@@ -80,7 +81,7 @@ putting_stop {E} study plan planned rest found before now after fault e p w =
 
 -- all were
 pub putting_end : {E : Type 0} (study : Study) (plan : List (PlannedScan E)) (found : Found) (before now : SinkState) → plan ≡ [] → Putting study plan found before now
-    → (now ≡ took before (scans_text study study.scans)) × (found ≡ found_in study nothing_found study.scans)
+    → (now ≡ took before (scans_text study study.scans)) × (found ≡ found_over study)
 putting_end {E} study plan found before now e p =
     let q = subst (λ (l : List (PlannedScan E)). Putting study l found before now) e p in (front_end before now (scans_text study study.scans) q.wrote, q.counts)
 

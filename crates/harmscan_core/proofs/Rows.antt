@@ -10,9 +10,10 @@ use Rattle.scan_report.specs.declared.boxes.BoxRow.{BoxRow}
 use Rattle.scan_report.specs.declared.boxes.Kind.{Kind}
 use Rattle.scan_report.specs.declared.boxes.Kind.TheVariants.{Cleared, Peak, Undecided}
 use Rattle.band_subdivision.specs.BoxText.{HasText}
-use Rattle.harmscan_core.specs.Regions.{better, reaching, with_kind, joined, ohms_of_summit, row_of_region}
+use Rattle.harmscan_core.specs.Regions.{ohms_of_summit, row_of_region}
 use Rattle.scan_report.specs.Reading.{text_of}
-use Rattle.harmscan_core.specs.Report.{row_of, count_more, ended_by, tally_more, open_rows, ended_rows, box_rows}
+use Rattle.harmscan_core.specs.Report.{row_of}
+use Rattle.harmscan_core.specs.Fold.{better, reaching, with_kind, joined, count_more, ended_by, tally_more, open_rows, ended_rows, folded_rows}
 use Rattle.harmscan_core.specs.Tallies.{IsRun, IsTally}
 use Rattle.harmscan_core.specs.Texts.{open_text, ended_text, step_text, boxes_text}
 use Rattle.harmscan_core.specs.declared.counts.Counts.{Counts}
@@ -49,7 +50,7 @@ unfolding boxes_text step_text ended_text
 step_first hz t b bs =
     let ended = ended_rows hz t.regions t.run b.kind in
     let own = row_of (t.counts.boxes + 1) b.lo b.hi b.kind in
-    text_of-both ended (own ∷ box_rows hz (tally_more b t) bs) ∙ sym (append_assoc (text_of ended) (row_text own) (text_of (box_rows hz (tally_more b t) bs)))
+    text_of-both ended (own ∷ folded_rows hz (tally_more b t) bs) ∙ sym (append_assoc (text_of ended) (row_text own) (text_of (folded_rows hz (tally_more b t) bs)))
 
 front_of_step : (before now : SinkState) (hz : ℤ) (t : Tally) (left : List BoxRow) (b : BoxRow) (bs : List BoxRow) (whole : List ℕ) → left ≡ b ∷ bs → WroteFront before now (boxes_text hz t left) whole
     → WroteFront before now (step_text hz t b ++ boxes_text hz (tally_more b t) bs) whole
@@ -73,7 +74,7 @@ front_of_end : (before now : SinkState) (hz : ℤ) (t : Tally) (left : List BoxR
     → WroteFront before now (open_text hz t.regions t.run ++ []) whole
 unfolding boxes_text open_text
 front_of_end before now hz t left whole e h =
-    subst (λ (r : List ℕ). WroteFront before now r whole) (ap (λ (l : List BoxRow). text_of (box_rows hz t l)) e ∙ sym (append-nil (text_of (open_rows hz t.regions t.run)))) h
+    subst (λ (r : List ℕ). WroteFront before now r whole) (ap (λ (l : List BoxRow). text_of (folded_rows hz t l)) e ∙ sym (append-nil (text_of (open_rows hz t.regions t.run)))) h
 
 pub boxes_end : (before now after : SinkState) (hz : ℤ) (t : Tally) (left : List BoxRow) (whole : List ℕ) → left ≡ [] → WroteFront before now (boxes_text hz t left) whole
     → after ≡ took now (open_text hz t.regions t.run) → after ≡ took before whole

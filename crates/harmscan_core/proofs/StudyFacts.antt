@@ -35,6 +35,7 @@ use Rattle.element_parts.proofs.Values.{kv_within}
 use Rattle.sequence_network.specs.Networks.{network_of}
 use Rattle.sequence_network.specs.Refusals.{IsLiveScan, HasLiveNetworks}
 use Rattle.harmscan_core.specs.Scan.{spec_of, order_of, test_of, boxes_in}
+use Rattle.harmscan_core.specs.Fold.{most_boxes}
 use Rattle.harmscan_core.specs.Claim.{looked_at, HoldsOfScan, HoldsOfStudy}
 use Rattle.harmscan_core.specs.Plan.{CanScan}
 use Rattle.harmscan_core.proofs.BoxCount.{boxes_few}
@@ -109,7 +110,7 @@ scan_texts study scan b s =
     let r = spec_in_range study scan b s in
     boxes_have_text study.scale (levels_of (spec_of study scan)) _ (widths_of (spec_of study scan)) _ _ (small_scale study.scale b.scale) r.levels r.finest r.band
 
-pub scan_few : (study : Study) (scan : ScanItem) → IsLawful study → IsLawfulScan study.model study.buses scan → length (boxes_in study scan) < 4294967295
+pub scan_few : (study : Study) (scan : ScanItem) → IsLawful study → IsLawfulScan study.model study.buses scan → length (boxes_in study scan) < most_boxes
 unfolding boxes_in
 scan_few study scan b s =
     let r = spec_in_range study scan b s in

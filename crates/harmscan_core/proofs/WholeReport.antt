@@ -7,7 +7,10 @@ use Rattle.study_model.specs.declared.records.ScanItem.{ScanItem}
 use Rattle.study_model.specs.declared.records.Study.{Study}
 use Rattle.harmscan_core.specs.Scan.{boxes_in}
 use Rattle.scan_report.specs.Reading.{text_of}
-use Rattle.harmscan_core.specs.Report.{box_rows, tallied, no_tally, head_row, summary_of, scan_rows, report_status, rows_of_scans, report_text}
+use Rattle.harmscan_core.specs.Regions.{parts_of}
+use Rattle.harmscan_core.specs.Report.{rows_of_parts, head_row, summary_of, scan_rows, report_status, rows_of_scans, report_text}
+use Rattle.harmscan_core.specs.Fold.{folded_rows, no_tally}
+use Rattle.harmscan_core.proofs.Folds.{rows_are, summary_is}
 use Rattle.harmscan_core.proofs.Rows.{text_of-both}
 use Rattle.harmscan_core.specs.Texts.{head_text, boxes_text, summary_text, end_text, body_text, scan_text, scans_text, whole_text}
 
@@ -17,9 +20,12 @@ one_row x = append-nil (row_text x)
 scan_rows_text : (study : Study) (scan : ScanItem) → text_of (scan_rows study scan) ≡ scan_text study scan
 unfolding scan_rows scan_text head_text body_text boxes_text summary_text
 scan_rows_text study scan =
-    ap (λ (t : List ℕ). row_text (head_row study scan) ++ t)
-    (text_of-both (box_rows study.hz no_tally (boxes_in study scan)) (summary_of scan (tallied no_tally (boxes_in study scan)) ∷ [])
-    ∙ ap (λ (t : List ℕ). text_of (box_rows study.hz no_tally (boxes_in study scan)) ++ t) (one_row (summary_of scan (tallied no_tally (boxes_in study scan)))))
+    let boxes = boxes_in study scan in
+    let rows = rows_of_parts study.hz 1 1 (parts_of boxes) in
+    let front : List ℕ → List ℕ = λ t. row_text (head_row study scan) ++ t in
+    ap front (text_of-both rows (summary_of scan boxes ∷ []) ∙ ap (λ (t : List ℕ). text_of rows ++ t) (one_row (summary_of scan boxes)))
+    ∙ ap (λ (l : List Row). front (text_of l ++ row_text (summary_of scan boxes))) (sym (rows_are study.hz boxes))
+    ∙ ap (λ (r : Row). front (text_of (folded_rows study.hz no_tally boxes) ++ row_text r)) (sym (summary_is scan boxes))
 
 scans_rows_text : (study : Study) (scans : List ScanItem) → text_of (rows_of_scans study scans) ≡ scans_text study scans
 scans_rows_text study [] = refl

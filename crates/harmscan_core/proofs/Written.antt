@@ -1,12 +1,15 @@
 -- What a report that was put says.
-use Rattle.std.proofs.Common.{◌≡◌, ◌∙◌, ℕ, List, ap}
+use Rattle.std.proofs.Common.{◌≡◌, ◌∙◌, inr, ℕ, List, Err, ap, sym, subst}
 use Rattle.std.proofs.lemmas.List.Elements.{recursion_from_All}
-use Rattle.harm_io.specs.Sinks.{SinkState, took}
+use Rattle.harm_io.specs.Sinks.{SinkState, took, Writes, FailsToWrite, LacksMemory}
+use Rattle.harm_io.specs.declared.sink.PutFault.{PutFault}
+use Rattle.harm_io.specs.declared.sink.PutFault.TheVariants.{Failed, NoMemory}
 use Rattle.study_model.specs.Lawful.{IsLawful, IsLawfulScan}
 use Rattle.study_model.specs.declared.records.Study.{Study}
 use Rattle.harmscan_core.specs.Report.{report_status}
 use Rattle.harmscan_core.specs.Texts.{whole_text}
-use Rattle.harmscan_core.specs.Outcome.{IsReported}
+use Rattle.harmscan_core.specs.Outcome.{IsReported, Reports, outcome_of_put}
+use Rattle.harmscan_core.specs.declared.outcome.Outcome.{Outcome}
 use Rattle.harmscan_core.specs.Plan.{IsPlan}
 use Rattle.harmscan_core.specs.declared.plan.PlannedScan.{PlannedScan}
 use Rattle.harmscan_core.proofs.StudyFacts.{study_holds}
@@ -20,3 +23,8 @@ is_reported study plan status out out' lawful is shows wrote = record {
   written = wrote ∙ ap (took out) (whole_report study);
   claim = study_holds study lawful (recursion_from_All (IsLawfulScan study.model study.buses) study.scans lawful.scans) (plan_can study plan is);
 }
+
+-- a report that wasn't taken whole
+pub not_reported : (study : Study) (out out' : SinkState) (fault : PutFault) (o : Outcome) → Writes {A = ℕ} (whole_text study (report_status study)) out out' (Err fault) → o ≡ outcome_of_put fault → Reports study out out' o
+not_reported study out out' Failed o h e = subst (Reports study out out') (sym e) (subst (λ (t : List ℕ). FailsToWrite t out out') (whole_report study) h)
+not_reported study out out' NoMemory o h e = subst (Reports study out out') (sym e) (inr (subst (λ (t : List ℕ). LacksMemory t out out') (whole_report study) h))

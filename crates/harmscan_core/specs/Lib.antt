@@ -1,7 +1,7 @@
 pub mod Scan
 pub mod Regions
 pub mod Tallies
-pub mod RegionLaw
+pub mod Fold
 pub mod Report
 pub mod Texts
 pub mod Plan

@@ -2,7 +2,10 @@
 use Rattle.std.specs.Prelude.{◌≡◌, ◌≢◌, ◌⊎◌, ℕ, ◌<◌, ◌≤◌, List, [], ◌∷◌, ◌++◌, length, Option, Some, None, IfSome, Result, Ok, Err}
 use Rattle.harm_io.specs.Shelves.{ShelfState, asked_too, FailsToFetch}
 use Rattle.harm_io.specs.Sinks.{SinkState, took, FailsToWrite, LacksMemory, Puts}
+use Rattle.harm_io.specs.declared.shelf.FetchFault.{FetchFault}
+use Rattle.harm_io.specs.declared.shelf.FetchFault.TheVariants as fetch
 use Rattle.harm_io.specs.declared.sink.PutFault.{PutFault}
+use Rattle.harm_io.specs.declared.sink.PutFault.TheVariants as put
 use Rattle.study_model.specs.declared.records.Study.{Study}
 use Rattle.study_model.specs.declared.fault.StudyFault.{StudyFault}
 use Rattle.study_model.specs.declared.fault.StudyFault.TheVariants as fault
@@ -11,12 +14,13 @@ use Rattle.harmscan_core.specs.Accepted.{IsAccepted, IsRefused}
 use Rattle.harmscan_core.specs.Report.{report_text, report_status}
 use Rattle.harmscan_core.specs.Claim.{HoldsOfStudy}
 use Rattle.harmscan_core.specs.Lines.{line_at}
+use Rattle.harmscan_core.specs.declared.limits.TheConstants.{LONGEST_FILE}
 use Rattle.harmscan_core.specs.declared.outcome.Outcome.{Outcome}
 use Rattle.harmscan_core.specs.declared.outcome.Outcome.TheVariants as outcome
 
 -- the longest file that is read, in bytes
 abbrev pub longest_file : ℕ
-longest_file = 4194304
+longest_file = LONGEST_FILE
 
 -- the bytes that were given for a file, no more than a file may have and those that the shelf tells, are an accepted study with this property
 pub record GivenStudy (told : Option (List ℕ)) (P : Study → Type 0) : Type 0 where
@@ -34,6 +38,23 @@ pub record GivenRefusal (told : Option (List ℕ)) (f : StudyFault) : Type 0 whe
   pub fits : length bytes ≤ longest_file
   pub no_memory : f ≢ fault.NoMemory
   pub is : IsRefused bytes f
+
+-- how a run ends at a fetch that gave no file
+abbrev pub outcome_of_fetch : FetchFault → Outcome
+outcome_of_fetch fetch.Failed = outcome.ReadFailed
+outcome_of_fetch (fetch.TooLarge taken) = outcome.TooLarge
+outcome_of_fetch fetch.NoMemory = outcome.NoMemory
+
+-- how a run ends at a put that didn't take its line
+abbrev pub outcome_of_put : PutFault → Outcome
+outcome_of_put put.Failed = outcome.WriteFailed
+outcome_of_put put.NoMemory = outcome.NoMemory
+
+-- how a run ends at the fault of a study or of its networks: each but want of memory is its refusal
+abbrev pub EndsAt : StudyFault → Outcome → Type 0
+EndsAt f outcome.NoMemory = f ≡ fault.NoMemory
+EndsAt f (outcome.Refused g) = (f ≢ fault.NoMemory) × (g ≡ f)
+EndsAt f _ = ⊥
 
 -- how a run ends whose study's networks are refused, or that lacks the memory to build them
 abbrev pub RefusesNetworks : Study → Outcome → Type 0
@@ -105,6 +126,13 @@ pub record Runs (words : Option (List ℕ)) (shelf shelf' : ShelfState) (out out
   pub answer : Outcome
   pub shows : status ≡ status_at answer
   pub happens : HappensFor words shelf shelf' out out' answer
+  pub says : Says (line_at answer) err err'
+
+-- a run that ends before it has words: the shelf and `out` stay as they were
+pub record EndsAtOnce (answer : Outcome) (shelf shelf' : ShelfState) (out out' err err' : SinkState) (status : ℕ) : Type 0 where
+  pub shows : status ≡ status_at answer
+  pub shelf_stays : shelf' ≡ shelf
+  pub out_stays : out' ≡ out
   pub says : Says (line_at answer) err err'
 
 -- the names asked for are those before, and then the file that the words name or none; the files stay

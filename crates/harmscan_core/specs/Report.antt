@@ -1,5 +1,6 @@
 -- The rows, the text and the status of a study's report.
-use Rattle.std.specs.Prelude.{ℕ, ℤ, ◌+◌, nat_lt, slice_get, unsigned_abs, false, ◌||◌, if◌then◌else◌, List, [], ◌∷◌, ◌++◌, Option, Some, None}
+use Rattle.std.specs.Prelude.{ℕ, ℤ, ◌+◌, slice_get, unsigned_abs, Bool, if◌then◌else◌, List, [], ◌∷◌, ◌++◌, length, count_by, Option, Some, None}
+use Rattle.std.specs.List.{list_any}
 use Rattle.scan_report.specs.Reading.{text_of}
 use Rattle.scan_report.specs.declared.boxes.Kind.{Kind}
 use Rattle.scan_report.specs.declared.boxes.Kind.TheVariants.{Cleared, Peak, Undecided}
@@ -14,11 +15,7 @@ use Rattle.study_model.specs.declared.words.Sequence.TheVariants as sequence
 use Rattle.study_model.specs.declared.records.Bus.{Bus}
 use Rattle.study_model.specs.declared.records.ScanItem.{ScanItem}
 use Rattle.study_model.specs.declared.records.Study.{Study}
-use Rattle.harmscan_core.specs.declared.counts.Counts.{Counts}
-use Rattle.harmscan_core.specs.declared.counts.Tally.{Tally}
-use Rattle.harmscan_core.specs.declared.region.Region.{Region}
-use Rattle.harmscan_core.specs.Regions.{joined, row_of_region}
-use Rattle.harmscan_core.specs.declared.counts.Found.{Found}
+use Rattle.harmscan_core.specs.Regions.{is_cleared, is_peak, is_undecided, count_of, Part, cleared, region, parts_of, is_region, region_of, row_of_region}
 use Rattle.harmscan_core.specs.Scan.{boxes_in}
 
 -- the row of a box
@@ -27,53 +24,17 @@ row_of number lo hi Cleared = row.BoxLine number lo hi word.Cleared None None
 row_of number lo hi (Peak at ohms) = row.BoxLine number lo hi word.Peak (Some at) (Some ohms)
 row_of number lo hi Undecided = row.BoxLine number lo hi word.Undecided None None
 
--- how many boxes are of each kind
-abbrev pub count_more : Kind → Counts → Counts
-count_more Cleared c = record c { boxes = c.boxes + 1; cleared = c.cleared + 1 }
-count_more (Peak at ohms) c = record c { boxes = c.boxes + 1; peaks = c.peaks + 1 }
-count_more Undecided c = record c { boxes = c.boxes + 1; undecided = c.undecided + 1 }
+-- the rows of boxes, numbered from here
+abbrev pub box_rows : ℕ → List BoxRow → List Row
+box_rows number [] = []
+box_rows number (b ∷ bs) = row_of number b.lo b.hi b.kind ∷ box_rows (number + 1) bs
 
-abbrev pub no_counts : Counts
-no_counts = record { boxes = 0; cleared = 0; peaks = 0; undecided = 0 }
-
--- how many regions have ended: a cleared box ends the one that is open
-abbrev pub ended_by : ℕ → Option Region → Kind → ℕ
-ended_by regions (Some run) Cleared = regions + 1
-ended_by regions (Some run) (Peak at ohms) = regions
-ended_by regions (Some run) Undecided = regions
-ended_by regions None kind = regions
-
--- one box more of a scan
-abbrev pub tally_more : BoxRow → Tally → Tally
-tally_more b t = record { counts = count_more b.kind t.counts; regions = ended_by t.regions t.run b.kind; run = joined t.run b }
-
-abbrev pub tallied : Tally → List BoxRow → Tally
-tallied t [] = t
-tallied t (b ∷ bs) = tallied (tally_more b t) bs
-
-abbrev pub no_tally : Tally
-no_tally = record { counts = no_counts; regions = 0; run = None }
-
--- the row of the run that is open, where there is one
-abbrev pub open_rows : ℤ → ℕ → Option Region → List Row
-open_rows hz regions None = []
-open_rows hz regions (Some run) = row_of_region hz (regions + 1) run ∷ []
-
--- the row of the region that a box ends
-abbrev pub ended_rows : ℤ → ℕ → Option Region → Kind → List Row
-ended_rows hz regions run Cleared = open_rows hz regions run
-ended_rows hz regions run (Peak at ohms) = []
-ended_rows hz regions run Undecided = []
-
--- the rows of boxes, each region's row right after its last box
-abbrev pub box_rows : ℤ → Tally → List BoxRow → List Row
-box_rows hz t [] = open_rows hz t.regions t.run
-box_rows hz t (b ∷ bs) = ended_rows hz t.regions t.run b.kind ++ row_of (t.counts.boxes + 1) b.lo b.hi b.kind ∷ box_rows hz (tally_more b t) bs
-
--- how many regions there are, the open one too
-abbrev pub all_regions : ℕ → Option Region → ℕ
-all_regions regions None = regions
-all_regions regions (Some run) = regions + 1
+-- the rows of parts, their boxes and regions numbered from here: a region's row is right after its last box
+abbrev pub rows_of_parts : ℤ → ℕ → ℕ → List Part → List Row
+rows_of_parts hz number regions [] = []
+rows_of_parts hz number regions (cleared b ∷ parts) = row_of number b.lo b.hi b.kind ∷ rows_of_parts hz (number + 1) regions parts
+rows_of_parts hz number regions (region first more ∷ parts) =
+    box_rows number (first ∷ more) ++ row_of_region hz regions (region_of first more) ∷ rows_of_parts hz (number + length (first ∷ more)) (regions + 1) parts
 
 -- the name of a bus, or no bytes where there is none
 abbrev pub name_in : Option Bus → List ℕ
@@ -92,32 +53,22 @@ net_of sequence.Zero = net.Zero
 abbrev pub head_row : Study → ScanItem → Row
 head_row study scan = row.Scan scan.name (bus_name study.buses scan.bus) (net_of scan.network) (unsigned_abs scan.from) (unsigned_abs scan.to) scan.threshold study.method
 
--- a scan's last row
-abbrev pub summary_of : ScanItem → Tally → Row
-summary_of scan t = row.Summary scan.name t.counts.boxes t.counts.cleared t.counts.peaks t.counts.undecided (all_regions t.regions t.run)
+-- a scan's last row: its boxes, of each kind, and its regions
+abbrev pub summary_of : ScanItem → List BoxRow → Row
+summary_of scan boxes =
+    row.Summary scan.name (length boxes) (count_of is_cleared boxes) (count_of is_peak boxes) (count_of is_undecided boxes) (count_by is_region (parts_of boxes))
 
 -- a scan's rows: the first, those of its boxes and regions, the last
 unfoldable pub scan_rows : Study → ScanItem → List Row
-scan_rows study scan = head_row study scan ∷ (box_rows study.hz no_tally (boxes_in study scan) ++ summary_of scan (tallied no_tally (boxes_in study scan)) ∷ [])
+scan_rows study scan = head_row study scan ∷ (rows_of_parts study.hz 1 1 (parts_of (boxes_in study scan)) ++ summary_of scan (boxes_in study scan) ∷ [])
 
--- a scan more, with these boxes
-abbrev pub found_too : Found → Counts → Found
-found_too f c = record { peak = f.peak || nat_lt 0 c.peaks; undecided = f.undecided || nat_lt 0 c.undecided }
-
-abbrev pub nothing_found : Found
-nothing_found = record { peak = false; undecided = false }
-
--- what is found in all scans together
-abbrev pub found_in : Study → Found → List ScanItem → Found
-found_in study f [] = f
-found_in study f (scan ∷ scans) = found_in study (found_too f (tallied no_tally (boxes_in study scan)).counts) scans
+-- whether some box of some scan is of a kind
+abbrev pub some_box : (Kind → Bool) → Study → Bool
+some_box of_kind study = list_any (λ scan. list_any (λ b. of_kind b.kind) (boxes_in study scan)) study.scans
 
 -- 3 where some box is a peak, else 4 where one is undecided, else 0
-abbrev pub status_of : Found → ℕ
-status_of f = if f.peak then 3 else (if f.undecided then 4 else 0)
-
 unfoldable pub report_status : Study → ℕ
-report_status study = status_of (found_in study nothing_found study.scans)
+report_status study = if some_box is_peak study then 3 else (if some_box is_undecided study then 4 else 0)
 
 -- the rows of scans in order
 abbrev pub rows_of_scans : Study → List ScanItem → List Row

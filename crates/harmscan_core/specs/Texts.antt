@@ -9,7 +9,8 @@ use Rattle.scan_report.specs.declared.boxes.Kind.{Kind}
 use Rattle.harmscan_core.specs.declared.counts.Tally.{Tally}
 use Rattle.harmscan_core.specs.declared.region.Region.{Region}
 use Rattle.scan_report.specs.Reading.{text_of}
-use Rattle.harmscan_core.specs.Report.{row_of, open_rows, ended_rows, box_rows, head_row, summary_of, tallied, no_tally}
+use Rattle.harmscan_core.specs.Report.{row_of, head_row}
+use Rattle.harmscan_core.specs.Fold.{open_rows, ended_rows, folded_rows, folded_summary, tallied, no_tally}
 use Rattle.harmscan_core.specs.Scan.{boxes_in}
 
 -- a scan's first row
@@ -30,11 +31,11 @@ step_text hz t b = ended_text hz t.regions t.run b.kind ++ row_text (row_of (t.c
 
 -- the rows of boxes and of their regions
 unfoldable pub boxes_text : ℤ → Tally → List BoxRow → List ℕ
-boxes_text hz t boxes = text_of (box_rows hz t boxes)
+boxes_text hz t boxes = text_of (folded_rows hz t boxes)
 
 -- a scan's last row
 unfoldable pub summary_text : ScanItem → Tally → List ℕ
-summary_text scan tally = row_text (summary_of scan tally)
+summary_text scan tally = row_text (folded_summary scan tally)
 
 -- the last row of a report
 unfoldable pub end_text : ℕ → List ℕ

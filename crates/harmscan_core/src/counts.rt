@@ -1,6 +1,6 @@
 // How many boxes there are, and of which kinds, and the regions that they make.
 ghost use Rattle.std.specs.Prelude.{◌≡◌, ◌<◌, ◌≤◌};
-ghost use Rattle.harmscan_core.specs.Report.{count_more, ended_by, tally_more, all_regions, found_too, status_of};
+ghost use Rattle.harmscan_core.specs.Fold.{most_boxes, count_more, ended_by, tally_more, all_regions, found_too, status_of};
 ghost use Rattle.harmscan_core.specs.Tallies.{IsTally};
 
 use crate::region::{Region, joined};
@@ -27,7 +27,7 @@ impl Counts {
 
 /// One box more, of this kind.
 pub fn count(counts: Counts, kind: Kind) -> Counts
-    requires { counts.boxes < 4294967295 × counts.cleared ≤ counts.boxes × counts.peaks ≤ counts.boxes × counts.undecided ≤ counts.boxes }
+    requires { counts.boxes < most_boxes × counts.cleared ≤ counts.boxes × counts.peaks ≤ counts.boxes × counts.undecided ≤ counts.boxes }
     ensures { result ≡ count_more kind counts }
 {
     let mut counts = counts;
@@ -59,7 +59,7 @@ impl Tally {
 
 /// How many regions have ended after a box of this kind.
 fn ended_by(regions: u32, run: Option<Region>, kind: Kind) -> u32
-    requires { regions < 4294967295 }
+    requires { regions < most_boxes }
     ensures { result ≡ ended_by regions run kind }
 {
     match (run, kind) {
@@ -71,7 +71,7 @@ fn ended_by(regions: u32, run: Option<Region>, kind: Kind) -> u32
 /// One box of a scan more.
 pub fn tally_more(tally: Tally, found: &BoxRow) -> Tally
     requires tally { IsTally tally }
-    requires room { tally.counts.boxes < 4294967295 }
+    requires room { tally.counts.boxes < most_boxes }
     ensures { result ≡ tally_more found.now tally }
 {
     Tally {
@@ -83,7 +83,7 @@ pub fn tally_more(tally: Tally, found: &BoxRow) -> Tally
 
 /// How many regions there are, the open one too.
 pub fn all_regions(regions: u32, run: Option<Region>) -> u32
-    requires { regions < 4294967295 }
+    requires { regions < most_boxes }
     ensures { result ≡ all_regions regions run }
 {
     match run {

@@ -2,6 +2,7 @@
 #![tactic(auto)]
 
 mod counts;
+mod limits;
 mod lines;
 mod outcome;
 mod perform;
@@ -11,6 +12,6 @@ mod report;
 mod scan;
 mod words;
 
+pub use limits::LONGEST_FILE;
 pub use outcome::Outcome;
-pub use perform::run;
-pub use region::run_is_its_region;
+pub use perform::{run, run_collected};

@@ -1,7 +1,11 @@
 // How a run ends.
-ghost use Rattle.std.specs.Prelude.{◌≡◌};
-ghost use Rattle.harmscan_core.specs.Outcome.{status_at};
+ghost use Rattle.std.specs.Prelude.{◌≡◌, ◌≢◌};
+ghost use Rattle.std.specs.IoError.{error_kind};
+ghost use Rattle.harmscan_core.specs.Outcome.{status_at, outcome_of_fetch, outcome_of_put, EndsAt};
 
+use harm_io::{FetchFault, PutFault};
+use std::io;
+use std::io::ErrorKind;
 use study_model::StudyFault;
 
 /// How a run ends.
@@ -35,5 +39,47 @@ pub fn status(outcome: &Outcome) -> u8
         Outcome::WriteFailed => 6,
         Outcome::NoMemory => 7,
         Outcome::Written(status) => *status,
+    }
+}
+
+/// How a run ends at a fetch that gave no file.
+pub fn after_fetch(fault: FetchFault) -> Outcome
+    ensures { result ≡ outcome_of_fetch fault }
+{
+    match fault {
+        FetchFault::Failed => Outcome::ReadFailed,
+        FetchFault::TooLarge(_) => Outcome::TooLarge,
+        FetchFault::NoMemory => Outcome::NoMemory,
+    }
+}
+
+/// How a run ends at the fault of a study or of its networks.
+pub fn after_fault(fault: StudyFault) -> Outcome
+    ensures { EndsAt fault result }
+{
+    match fault {
+        StudyFault::NoMemory => Outcome::NoMemory,
+        refusal => Outcome::Refused(refusal),
+    }
+}
+
+/// How a run ends at a put that didn't take its line.
+pub fn after_put(fault: PutFault) -> Outcome
+    ensures { result ≡ outcome_of_put fault }
+{
+    match fault {
+        PutFault::Failed => Outcome::WriteFailed,
+        PutFault::NoMemory => Outcome::NoMemory,
+    }
+}
+
+/// How a run ends whose words could not be collected: one that is no text has no reading, and else memory was wanting.
+pub fn after_words(error: &io::Error) -> Outcome
+    ensures text { error_kind error.now ≡ ErrorKind.InvalidData → result ≡ Outcome.WordsRefused }
+    ensures memory { error_kind error.now ≢ ErrorKind.InvalidData → result ≡ Outcome.NoMemory }
+{
+    match error.kind() {
+        ErrorKind::InvalidData => Outcome::WordsRefused,
+        _ => Outcome::NoMemory,
     }
 }

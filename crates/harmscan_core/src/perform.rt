@@ -1,5 +1,6 @@
 // From the words to the status.
-ghost use Rattle.std.specs.Prelude.{◌≡◌, ◌↔◌, ◌<◌, ◌≤◌, List, ℕ, length, IfOk, IfErr, OnOk, Some, None};
+ghost use Rattle.std.specs.Prelude.{◌≡◌, ◌≢◌, ◌↔◌, ◌<◌, ◌≤◌, List, ℕ, length, IfOk, IfErr, OnOk, Some, None};
+ghost use Rattle.std.specs.IoError.{error_kind};
 ghost use Rattle.harm_io.specs.Causes.{Rose};
 ghost use Rattle.harm_io.specs.Memory.{names_of};
 ghost use Rattle.study_model.specs.declared.records.Study.{Study};
@@ -8,24 +9,25 @@ ghost use Rattle.sequence_network.specs.Refusals.{HasLiveNetworks};
 ghost use Rattle.study_model.specs.declared.fault.StudyFault.{StudyFault};
 ghost use Rattle.harmscan_core.specs.Accepted.{IsAccepted, IsRefused};
 ghost use Rattle.harmscan_core.specs.Words.{reading};
-ghost use Rattle.harmscan_core.specs.Outcome.{ReadsStudy, RefusesNetworks, Reports, Happens, HappensFor, Runs, IsComplete, IsWritten, WritesReport, Asks, IsRefusal, StopsWithin, RefusesFor, longest_file};
+ghost use Rattle.harmscan_core.specs.Outcome.{ReadsStudy, RefusesNetworks, Reports, Happens, HappensFor, Runs, IsComplete, IsWritten, WritesReport, Asks, IsRefusal, StopsWithin, RefusesFor, EndsAtOnce, longest_file};
 
+use crate::limits::LONGEST_FILE;
 use crate::lines::say;
-use crate::outcome::{Outcome, status};
+use crate::outcome::{Outcome, after_fault, after_fetch, after_put, after_words, status};
 use crate::report::put_report;
 use crate::scan::plan_of;
 use crate::words::reading;
 use complex_interval::{Enclosure, Span};
-use harm_io::{FetchFault, PutFault, Shelf, Sink};
+use harm_io::{Shelf, Sink};
 use sequence_network::check_live;
 use std::alloc::Global;
-use study_model::{Study, StudyFault};
+use std::io;
+use std::io::ErrorKind;
+use study_model::Study;
 use study_reader::read_study;
 
-/// The longest file that is read, in bytes.
-const LONGEST_FILE: u64 = 4_194_304;
-
 /// Whether the networks of a study are accepted.
+#[tactic(auto, using(crate::proofs::Accepted::networks_end))]
 fn check_networks(alloc: Global, study: &Study) -> Result<(), Outcome>
     requires { IsBuilt study.now }
     ensures accepted { OnOk result (HasLiveNetworks study.now) }
@@ -33,13 +35,12 @@ fn check_networks(alloc: Global, study: &Study) -> Result<(), Outcome>
 {
     match check_live(alloc, study) {
         Ok(()) => Ok(()),
-        Err(StudyFault::NoMemory) => Err(Outcome::NoMemory),
-        Err(refusal) => Err(Outcome::Refused(refusal)),
+        Err(fault) => Err(after_fault(fault)),
     }
 }
 
 /// The study of a file, where it is accepted.
-#[tactic(auto, using(crate::proofs::Accepted::networks_refused))]
+#[tactic(auto, using(crate::proofs::Accepted::networks_refused, crate::proofs::Accepted::fetch_refused, crate::proofs::Accepted::unread_refused))]
 fn study_from<F: Shelf>(alloc: Global, name: &str, shelf: &mut F) -> Result<Study, Outcome>
     ensures read { ReadsStudy name.now (F.state shelf.old) (F.state shelf.new) result }
     ensures built { IfOk result IsBuilt }
@@ -47,21 +48,19 @@ fn study_from<F: Shelf>(alloc: Global, name: &str, shelf: &mut F) -> Result<Stud
 {
     let bytes = match shelf.fetch(alloc, name, LONGEST_FILE) {
         Ok(bytes) => bytes,
-        Err(FetchFault::Failed) => return Err(Outcome::ReadFailed),
-        Err(FetchFault::TooLarge(_)) => return Err(Outcome::TooLarge),
-        Err(FetchFault::NoMemory) => return Err(Outcome::NoMemory),
+        Err(fault) => return Err(after_fetch(fault)),
     };
     match read_study(alloc, &bytes) {
         Ok(study) => match check_networks(alloc, &study) {
             Ok(()) => Ok(study),
             Err(outcome) => Err(outcome),
         },
-        Err(StudyFault::NoMemory) => Err(Outcome::NoMemory),
-        Err(fault) => Err(Outcome::Refused(fault)),
+        Err(fault) => Err(after_fault(fault)),
     }
 }
 
 /// The report of a study at its scale: all walks are made before its first line is put.
+#[tactic(auto, using(crate::proofs::Written::not_reported))]
 fn report_at<E: Enclosure, O: Sink>(alloc: Global, study: &Study, out: &mut O) -> Outcome
     requires study { IsBuilt study.now }
     requires networks { HasLiveNetworks study.now }
@@ -72,8 +71,7 @@ fn report_at<E: Enclosure, O: Sink>(alloc: Global, study: &Study, out: &mut O) -
         Err(_) => Outcome::NoMemory,
         Ok(mut plan) => match put_report(study, &mut plan, out) {
             Ok(status) => Outcome::Written(status),
-            Err(PutFault::Failed) => Outcome::WriteFailed,
-            Err(PutFault::NoMemory) => Outcome::NoMemory,
+            Err(fault) => after_put(fault),
         },
     }
 }
@@ -156,4 +154,30 @@ pub fn run<F: Shelf, O: Sink, E: Sink>(
     let outcome = perform(alloc, words, shelf, out);
     say(&outcome, err);
     status(&outcome)
+}
+
+/// Runs the words as they were collected, and answers the program's status. Where they could not be collected,
+/// the shelf and `out` stay as they were, and `err` gets the line of words that have no reading or of want of memory.
+pub fn run_collected<F: Shelf, O: Sink, E: Sink>(
+    alloc: Global,
+    words: &io::Result<Vec<String>>,
+    shelf: &mut F,
+    out: &mut O,
+    err: &mut E,
+) -> u8
+    ensures collected { IfOk words.now (λ words. Runs (reading (names_of words.items)) (F.state shelf.old) (F.state shelf.new) (O.state out.old) (O.state out.new)
+        (E.state err.old) (E.state err.new) result) }
+    ensures no_text { IfErr words.now (λ error. error_kind error ≡ ErrorKind.InvalidData →
+        EndsAtOnce Outcome.WordsRefused (F.state shelf.old) (F.state shelf.new) (O.state out.old) (O.state out.new) (E.state err.old) (E.state err.new) result) }
+    ensures no_memory { IfErr words.now (λ error. error_kind error ≢ ErrorKind.InvalidData →
+        EndsAtOnce Outcome.NoMemory (F.state shelf.old) (F.state shelf.new) (O.state out.old) (O.state out.new) (E.state err.old) (E.state err.new) result) }
+{
+    match words {
+        Ok(words) => run(alloc, words, shelf, out, err),
+        Err(error) => {
+            let outcome = after_words(error);
+            say(&outcome, err);
+            status(&outcome)
+        }
+    }
 }

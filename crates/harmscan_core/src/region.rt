@@ -2,8 +2,8 @@
 ghost use Rattle.std.specs.Prelude.{◌≡◌, ◌<◌, IfSome};
 ghost use Rattle.study_model.specs.Range.{IsIn};
 ghost use Rattle.study_model.specs.declared.range.TheConstants.Range.{HERTZ};
-ghost use Rattle.harmscan_core.specs.RegionLaw.{RunIsItsRegion};
-ghost use Rattle.harmscan_core.specs.Regions.{better, reaching, with_kind, joined, hertz_down, hertz_up};
+ghost use Rattle.harmscan_core.specs.Regions.{hertz_down, hertz_up};
+ghost use Rattle.harmscan_core.specs.Fold.{most_boxes, better, reaching, with_kind, joined};
 
 use fixed_decimal::Decimal;
 use scan_report::{BoxRow, Kind};
@@ -60,8 +60,8 @@ fn reaching(run: Option<Region>, lo: u32, hi: u32) -> Region
 
 /// A run with the kind of its last box; none where that is cleared.
 fn with_kind(run: Region, kind: Kind) -> Option<Region>
-    requires peaks { run.peaks < 4294967295 }
-    requires undecided { run.undecided < 4294967295 }
+    requires peaks { run.peaks < most_boxes }
+    requires undecided { run.undecided < most_boxes }
     ensures { result ≡ with_kind run kind }
 {
     match kind {
@@ -80,7 +80,7 @@ fn with_kind(run: Region, kind: Kind) -> Option<Region>
 
 /// The run that is open after one box more. A cleared box ends it.
 pub fn joined(run: Option<Region>, found: &BoxRow) -> Option<Region>
-    requires { IfSome run (λ run. (run.peaks < 4294967295) × (run.undecided < 4294967295)) }
+    requires { IfSome run (λ run. (run.peaks < most_boxes) × (run.undecided < most_boxes)) }
     ensures { result ≡ joined run found.now }
 {
     with_kind(reaching(run, found.lo, found.hi), found.kind)
@@ -101,8 +101,3 @@ pub fn hertz_up(order: u32, hz: Decimal) -> u64
 {
     (u64::from(order) * hz.millionths.unsigned_abs() + 999_999) / 1_000_000
 }
-
-/// After boxes that aren't cleared, the run that is open is their region.
-pub fn run_is_its_region()
-    ensures law { RunIsItsRegion }
-{}

@@ -9,7 +9,8 @@ ghost use Rattle.study_reader.specs.Built.{IsBuilt};
 ghost use Rattle.harmscan_core.specs.Scan.{boxes_in};
 ghost use Rattle.harmscan_core.specs.Texts.{head_text, open_text, ended_text, step_text, boxes_text, summary_text, end_text, body_text, scan_text, scans_text, whole_text};
 ghost use Rattle.harmscan_core.specs.Plan.{IsPlan};
-ghost use Rattle.harmscan_core.specs.Report.{row_of, tallied, no_tally, net_of, found_in, nothing_found, report_status};
+ghost use Rattle.harmscan_core.specs.Report.{row_of, net_of, report_status};
+ghost use Rattle.harmscan_core.specs.Fold.{most_boxes, tallied, no_tally, found_over};
 ghost use Rattle.harmscan_core.specs.Regions.{order_of_summit, ohms_of_summit, row_of_region};
 ghost use Rattle.harmscan_core.specs.Tallies.{IsTally};
 ghost use Rattle.scan_report.specs.Rows.{IsOhms};
@@ -133,7 +134,7 @@ fn put_open<O: Sink>(
     out: &mut O,
 ) -> Result<(), PutFault>
     requires hz { IsIn HERTZ hz }
-    requires regions { regions < 4294967295 }
+    requires regions { regions < most_boxes }
     requires ohms { IfSome run (λ run. IsOhms (ohms_of_summit run.summit)) }
     ensures { Writes (open_text hz regions run) (O.state out.old) (O.state out.new) result }
 {
@@ -154,7 +155,7 @@ fn put_ended<O: Sink>(
 ) -> Result<(), PutFault>
     requires hz { IsIn HERTZ hz }
     requires tally { IsTally tally }
-    requires room { tally.counts.boxes < 4294967295 }
+    requires room { tally.counts.boxes < most_boxes }
     ensures { Writes (ended_text hz tally.regions tally.run kind) (O.state out.old) (O.state out.new) result }
 {
     match kind {
@@ -174,7 +175,7 @@ fn put_step<O: Sink>(
 ) -> Result<(), PutFault>
     requires hz { IsIn HERTZ hz }
     requires tally { IsTally tally }
-    requires room { tally.counts.boxes < 4294967295 }
+    requires room { tally.counts.boxes < most_boxes }
     requires text { HasText found.now }
     ensures { Writes (step_text hz tally found.now) (O.state out.old) (O.state out.new) result }
 {
@@ -193,10 +194,10 @@ fn put_boxes<E: Enclosure, O: Sink>(
 ) -> Result<Tally, PutFault>
     requires hz { IsIn HERTZ hz }
     requires text { AllByRecursion HasText walk.old.left }
-    requires few { length walk.old.left < 4294967295 }
+    requires few { length walk.old.left < most_boxes }
     ensures wrote { Writes (boxes_text hz no_tally walk.old.left) (O.state out.old) (O.state out.new) result }
     ensures tally { IfOk result (λ t. t ≡ tallied no_tally walk.old.left) }
-    ensures room { IfOk result (λ t. t.regions < 4294967295) }
+    ensures room { IfOk result (λ t. t.regions < most_boxes) }
 {
     let mut tally = Tally::NONE;
     'boxes: while let Some(found) = walk.next_box() {
@@ -219,7 +220,7 @@ fn put_summary<O: Sink>(
     line: &mut LineBuf,
     out: &mut O,
 ) -> Result<Counts, PutFault>
-    requires { tally.regions < 4294967295 }
+    requires { tally.regions < most_boxes }
     ensures wrote { Writes (summary_text scan.now tally) (O.state out.old) (O.state out.new) result }
     ensures counts { IfOk result (λ c. c ≡ tally.counts) }
 {
@@ -300,7 +301,7 @@ fn put_body<E: Enclosure, O: Sink>(
 ) -> Result<Counts, PutFault>
     requires hz { IsIn HERTZ hz }
     requires text { AllByRecursion HasText walk.old.left }
-    requires few { length walk.old.left < 4294967295 }
+    requires few { length walk.old.left < most_boxes }
     ensures wrote { Writes (body_text hz scan.now walk.old.left) (O.state out.old) (O.state out.new) result }
     ensures counts { IfOk result (λ c. c ≡ (tallied no_tally walk.old.left).counts) }
 {
@@ -323,7 +324,7 @@ fn put_scan<E: Enclosure, O: Sink>(
     requires scan { IsLawfulScan study.now.model study.now.buses scan.now }
     requires boxes { walk.old.left ≡ boxes_in study.now scan.now }
     requires text { AllByRecursion HasText walk.old.left }
-    requires few { length walk.old.left < 4294967295 }
+    requires few { length walk.old.left < most_boxes }
     ensures wrote { Writes (scan_text study.now scan.now) (O.state out.old) (O.state out.new) result }
     ensures counts { IfOk result (λ c. c ≡ (tallied no_tally (boxes_in study.now scan.now)).counts) }
 {
@@ -343,7 +344,7 @@ fn put_scans<E: Enclosure, O: Sink>(
     requires study { IsBuilt study.now }
     requires plan { IsPlan study.now plan.old.items }
     ensures wrote { Writes (scans_text study.now study.now.scans) (O.state out.old) (O.state out.new) result }
-    ensures found { IfOk result (λ f. f ≡ found_in study.now nothing_found study.now.scans) }
+    ensures found { IfOk result (λ f. f ≡ found_over study.now) }
 {
     let mut found = Found::NOTHING;
     'scans: while let Some(planned) = plan.pop_front() {

@@ -3,7 +3,7 @@ use Rattle.std.specs.List.{AllByRecursion}
 use Rattle.harm_io.proofs.Writing.{WroteFront}
 use Rattle.scan_report.specs.declared.boxes.BoxRow.{BoxRow}
 use Rattle.band_subdivision.specs.BoxText.{HasText}
-use Rattle.harmscan_core.specs.Report.{tally_more, tallied, no_tally}
+use Rattle.harmscan_core.specs.Fold.{tally_more, tallied, no_tally}
 use Rattle.harmscan_core.specs.Tallies.{IsTally}
 use Rattle.harmscan_core.specs.Texts.{boxes_text}
 use Rattle.harmscan_core.specs.declared.counts.Tally.{Tally}

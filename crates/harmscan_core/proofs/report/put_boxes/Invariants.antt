@@ -2,7 +2,7 @@ use Rattle.std.proofs.Common.{◌≡◌, ◌+◌, ◌<◌, length}
 use Rattle.std.specs.List.{AllByRecursion}
 use Rattle.harm_io.proofs.Writing.{WroteFront}
 use Rattle.band_subdivision.specs.BoxText.{HasText}
-use Rattle.harmscan_core.specs.Report.{tallied, no_tally}
+use Rattle.harmscan_core.specs.Fold.{most_boxes, tallied, no_tally}
 use Rattle.harmscan_core.specs.Tallies.{IsTally}
 use Rattle.harmscan_core.specs.Texts.{boxes_text}
 use Rattle.harmscan_core.proofs.report.put_boxes.Given as goal
@@ -10,7 +10,7 @@ use Rattle.harmscan_core.proofs.report.put_boxes.Given as goal
 abbrev pub invariant-boxes : goal.invariant-boxes
 invariant-boxes g l = record {
   text : AllByRecursion HasText l.walk.left;
-  few : l.tally.counts.boxes + length l.walk.left < 4294967295;
+  few : l.tally.counts.boxes + length l.walk.left < most_boxes;
   tally : IsTally l.tally;
   counts : tallied l.tally l.walk.left ≡ tallied no_tally l.initial.walk.left;
   wrote : WroteFront (g.O.Sink.state l.initial.out) (g.O.Sink.state l.out) (boxes_text l.hz l.tally l.walk.left) (boxes_text l.hz no_tally l.initial.walk.left);
