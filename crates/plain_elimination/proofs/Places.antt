@@ -1,7 +1,8 @@
 -- Entries of rows that lie one after another, by their places.
-use Rattle.std.proofs.Common.{◌≡◌, ℕ, zero, suc, ◌+◌, ◌-◌, ◌*◌, ◌<◌, ◌≤◌, List, ◌∷◌, length, get_or, set, take, drop, map, replicate, Some, refl, sym, ap, ap₂, ◌∙◌, arith}
+use Rattle.std.proofs.Common.{◌≡◌, ℕ, zero, suc, ◌+◌, ◌-◌, ◌*◌, ◌<◌, ◌≤◌, List, [], ◌∷◌, length, get_or, set, take, drop, map, replicate, Some, refl, sym, ap, ap₂, ◌∙◌, arith}
 use Rattle.std.proofs.lemmas.Option.{slice_get-get_or}
-use Rattle.std.proofs.lemmas.List.{length-take-le, length-drop, length-map, get_or-take, get_or-drop, get_or-map, take-set-le, drop-set-lt, drop-set-add, map-set, take-replicate, drop-replicate}
+use Rattle.std.proofs.lemmas.List.{length-take-le, length-drop, length-map, get_or-take, get_or-drop, get_or-map, take-map, drop-map, drop-drop, take-set-le, drop-set-lt, drop-set-add, map-set, take-replicate, drop-replicate}
+use Rattle.std.proofs.Math.Nat.{mul-le-mul_right}
 use Rattle.std.proofs.Math.Seq.{take-set-lt}
 use Rattle.exact_algebra.proofs.Differences.{products}
 use Rattle.plain_elimination.specs.Layout.{rows_of}
@@ -48,3 +49,19 @@ rows_replicate (suc n) w x =
     let e : suc n * w ≡ w + n * w = omega (arith, products) in
     let rest : w + n * w - w ≡ n * w = omega arith in
     rw e (ap₂ (λ row rows. row ∷ rows) (take-replicate w (w + n * w) x (omega arith)) (ap (rows_of n w) (drop-replicate w (w + n * w) x ∙ ap (λ k. replicate k x) rest) ∙ rows_replicate n w x))
+
+-- a row by its number
+row_of : {X : Type 0} (n w r : ℕ) (xs : List X) → r < n → get_or (rows_of n w xs) r [] ≡ take w (drop (r * w) xs)
+row_of zero w r xs l = absurd (omega arith)
+row_of (suc n) w zero xs l = let e : zero * w ≡ 0 = omega (arith, products) in rw e refl
+row_of (suc n) w (suc r) xs l =
+    let e : suc r * w ≡ w + r * w = omega (arith, products) in
+    row_of n w r (drop w xs) (omega arith) ∙ rw (e, drop-drop (r * w) w xs) refl
+
+pub row_read : {R X : Type 0} (h : R → X) (n r : ℕ) (cells row : List R) → r < n → row ≡ take n (drop (r * n) cells) → map h row ≡ get_or (rows_of n n (map h cells)) r []
+row_read h n r cells row l e = ap (map h) e ∙ sym (take-map h n (drop (r * n) cells)) ∙ ap (take n) (sym (drop-map h (r * n) cells)) ∙ sym (row_of n n r (map h cells) l)
+
+pub row_length : {X : Type 0} (n r : ℕ) (xs : List X) → r < n → length xs ≡ n * n → length (take n (drop (r * n) xs)) ≡ n
+row_length n r xs l e =
+    let inside : r * n + n ≤ n * n = let m : suc r * n ≤ n * n = mul-le-mul_right {m = suc r} {n = n} n (omega arith) in let p : suc r * n ≡ n + r * n = omega (arith, products) in omega arith in
+    length-take-le n (drop (r * n) xs) (omega (arith, length-drop (r * n) xs))

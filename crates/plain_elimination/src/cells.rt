@@ -64,6 +64,17 @@ pub fn cells_up_to<E: Enclosure>(cells: &[Rect<E>], end: usize) -> &[Rect<E>]
     &cells[..end]
 }
 
+/// The cells of this row.
+pub fn cells_of_row<E: Enclosure>(cells: &[Rect<E>], size: usize, row: usize) -> &[Rect<E>]
+    requires row_in { row < size }
+    requires few { size ≤ 4096 }
+    requires square { length cells.now ≡ size * size }
+    ensures { result.now ≡ take size (drop (row * size) cells.now) }
+{
+    let start = row * size;
+    &cells[start..start + size]
+}
+
 /// Writes this cell.
 pub fn set_cell<E: Enclosure>(cells: &mut [Rect<E>], at: usize, x: Rect<E>)
     requires { at < length cells.old }

@@ -11,6 +11,7 @@ mod row;
 mod rows;
 mod solution;
 
+pub use cells::{clear_cells, nought_cells};
 pub use column::Column;
 pub use failure::Failure;
 pub use laws::{reduction_holds, solution_holds, worked_reductions};

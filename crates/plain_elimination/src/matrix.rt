@@ -1,9 +1,9 @@
 // A square matrix of complex intervals.
-ghost use Rattle.std.specs.Prelude.{◌≡◌, ◌+◌, ◌*◌, ◌<◌, ◌≤◌, Some, IfOk, length, replicate};
+ghost use Rattle.std.specs.Prelude.{◌≡◌, ◌+◌, ◌*◌, ◌<◌, ◌≤◌, Some, IfOk, [], get_or, length, map, replicate};
 ghost use Rattle.complex_interval.specs.Rect.{box_of};
 ghost use Rattle.plain_elimination.specs.Matrix.{Square, entry, set_entry, nought_box};
 
-use crate::cells::{clear_cells, nought_cells, place_of};
+use crate::cells::{cells_of_row, clear_cells, nought_cells, place_of};
 use complex_interval::{Enclosure, Rect};
 use std::alloc::{AllocError, Global};
 use std::marker::Model;
@@ -48,7 +48,8 @@ impl<E: Enclosure> Matrix<E> {
 
     /// The number of rows, and of entries in each.
     pub fn size(&self) -> u32
-        ensures { result ≡ self.now.size }
+        ensures value { result ≡ self.now.size }
+        ensures rows { length self.now.rows ≡ self.now.size }
     {
         self.size
     }
@@ -61,6 +62,15 @@ impl<E: Enclosure> Matrix<E> {
     {
         let place = place_of(self.size, row, column);
         self.cells[place]
+    }
+
+    /// The entries of this row, counted from 0.
+    pub fn row(&self, row: u32) -> &[Rect<E>]
+        requires { row < self.now.size }
+        ensures value { map (box_of E.ends) result.now ≡ get_or self.now.rows row [] }
+        ensures width { length result.now ≡ self.now.size }
+    {
+        cells_of_row(self.cells.as_slice(), self.size as usize, row as usize)
     }
 
     /// Sets the entry in this row and this column, counted from 0.

@@ -1,0 +1,14 @@
+// An enclosure of one entry of a solution, by an approximate inverse.
+#![tactic(auto)]
+
+mod bench;
+mod laws;
+mod outcome;
+mod sigma;
+mod size;
+mod sums;
+mod theta;
+
+pub use bench::InverseBench;
+pub use laws::{certificate_holds, worked_certificates};
+pub use outcome::InverseOutcome;

@@ -1,0 +1,5 @@
+pub mod Each
+mod Steps
+mod Wide
+mod Written
+mod Behind

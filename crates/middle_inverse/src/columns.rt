@@ -1,0 +1,121 @@
+// The five steps of a column, in place.
+ghost use Rattle.std.specs.Prelude.{◌≡◌, ◌+◌, ◌<◌, ◌≤◌, ℕ, ◌++◌, ◌∷◌, Some, Ok, length, map, slice_get};
+ghost use Rattle.std.specs.List.{All};
+ghost use Rattle.std.specs.Option.{option_map};
+ghost use Rattle.complex_interval.specs.Rect.{box_of};
+ghost use Rattle.middle_inverse.specs.Lists.{and_then, each};
+ghost use Rattle.middle_inverse.specs.Inverse.{bind, in_range, divided_row, cleared_row, by_pivot, by_rows, pivot_first, column_step, columns_from};
+
+use crate::fault::InverseFault;
+use crate::point::size_of;
+use crate::rows::{clear_rows, divide_row, entry_at, pivot_place};
+use complex_interval::{Enclosure, Rect};
+
+// The pivot's row stands in its place: it is divided, and the other rows are cleared.
+fn step_by<E: Enclosure>(
+    above: &mut [Vec<Rect<E>>],
+    first: &mut [Rect<E>],
+    below: &mut [Vec<Rect<E>>],
+    column: usize,
+) -> Result<(), InverseFault>
+    requires { column ≤ 4096 }
+    ensures value { bind result (λ _. Ok (map (λ r. map (box_of E.ends) r.items) above.new ++ map (box_of E.ends) first.new ∷ map (λ r. map (box_of E.ends) r.items) below.new))
+        ≡ bind (in_range (slice_get (map (box_of E.ends) first.old) column))
+        (by_pivot E.SCALE column (map (λ r. map (box_of E.ends) r.items) above.old) (map (box_of E.ends) first.old) (map (λ r. map (box_of E.ends) r.items) below.old)) }
+    ensures wide_above { (w : ℕ) → All (λ r. length r.items ≡ w) above.old → All (λ r. length r.items ≡ w) above.new }
+    ensures wide_below { (w : ℕ) → All (λ r. length r.items ≡ w) below.old → All (λ r. length r.items ≡ w) below.new }
+{
+    let pivot = match entry_at(first, column) {
+        Some(pivot) => pivot,
+        None => return Err(InverseFault::OutOfRange),
+    };
+    if size_of(pivot) == 0 {
+        return Err(InverseFault::NoInverse(column as u32 + 1));
+    }
+    match change_rows(above, first, below, column, pivot) {
+        Some(()) => Ok(()),
+        None => Err(InverseFault::OutOfRange),
+    }
+}
+
+fn change_rows<E: Enclosure>(
+    above: &mut [Vec<Rect<E>>],
+    first: &mut [Rect<E>],
+    below: &mut [Vec<Rect<E>>],
+    column: usize,
+    pivot: Rect<E>,
+) -> Option<()>
+    ensures value { option_map (λ _. map (λ r. map (box_of E.ends) r.items) above.new ++ map (box_of E.ends) first.new ∷ map (λ r. map (box_of E.ends) r.items) below.new) result
+        ≡ and_then (divided_row E.SCALE (box_of E.ends pivot) (map (box_of E.ends) first.old)) (λ q.
+        and_then (each (cleared_row E.SCALE column q) (map (λ r. map (box_of E.ends) r.items) above.old)) (λ a.
+        and_then (each (cleared_row E.SCALE column q) (map (λ r. map (box_of E.ends) r.items) below.old)) (λ b. Some (a ++ q ∷ b)))) }
+    ensures wide_above { (w : ℕ) → All (λ r. length r.items ≡ w) above.old → All (λ r. length r.items ≡ w) above.new }
+    ensures wide_below { (w : ℕ) → All (λ r. length r.items ≡ w) below.old → All (λ r. length r.items ≡ w) below.new }
+{
+    divide_row(first, pivot)?;
+    clear_rows(above, column, first)?;
+    clear_rows(below, column, first)
+}
+
+// The pivot's row is the first of the rest.
+fn step_first<E: Enclosure>(
+    above: &mut [Vec<Rect<E>>],
+    rest: &mut [Vec<Rect<E>>],
+    column: usize,
+) -> Result<(), InverseFault>
+    requires some { 0 < length rest.old }
+    requires few { column ≤ 4096 }
+    ensures value { bind result (λ _. Ok (map (λ r. map (box_of E.ends) r.items) above.new ++ map (λ r. map (box_of E.ends) r.items) rest.new))
+        ≡ by_rows E.SCALE column (map (λ r. map (box_of E.ends) r.items) above.old) (map (λ r. map (box_of E.ends) r.items) rest.old) }
+    ensures wide_above { (w : ℕ) → All (λ r. length r.items ≡ w) above.old → All (λ r. length r.items ≡ w) above.new }
+    ensures wide_rest { (w : ℕ) → All (λ r. length r.items ≡ w) rest.old → All (λ r. length r.items ≡ w) rest.new }
+{
+    let (first, below) = rest.split_at_mut(1);
+    step_by(above, first[0].as_mut_slice(), below, column)
+}
+
+// The pivot's row is looked for in the rest.
+fn step_rest<E: Enclosure>(
+    above: &mut [Vec<Rect<E>>],
+    rest: &mut [Vec<Rect<E>>],
+    column: usize,
+) -> Result<(), InverseFault>
+    requires some { 0 < length rest.old }
+    requires few { column ≤ 4096 }
+    ensures value { bind result (λ _. Ok (map (λ r. map (box_of E.ends) r.items) above.new ++ map (λ r. map (box_of E.ends) r.items) rest.new))
+        ≡ by_rows E.SCALE column (map (λ r. map (box_of E.ends) r.items) above.old) (pivot_first column (map (λ r. map (box_of E.ends) r.items) rest.old)) }
+    ensures wide_above { (w : ℕ) → All (λ r. length r.items ≡ w) above.old → All (λ r. length r.items ≡ w) above.new }
+    ensures wide_rest { (w : ℕ) → All (λ r. length r.items ≡ w) rest.old → All (λ r. length r.items ≡ w) rest.new }
+{
+    let place = pivot_place(rest, column);
+    rest.swap(0, place);
+    step_first(above, rest, column)
+}
+
+/// The five steps of this column.
+pub fn eliminate_column<E: Enclosure>(
+    rows: &mut [Vec<Rect<E>>],
+    column: usize,
+) -> Result<(), InverseFault>
+    requires column_in { column < length rows.old }
+    requires few { length rows.old ≤ 4096 }
+    ensures value { bind result (λ _. Ok (map (λ r. map (box_of E.ends) r.items) rows.new))
+        ≡ column_step E.SCALE column (map (λ r. map (box_of E.ends) r.items) rows.old) }
+    ensures wide { (w : ℕ) → All (λ r. length r.items ≡ w) rows.old → All (λ r. length r.items ≡ w) rows.new }
+{
+    let (above, rest) = rows.split_at_mut(column);
+    step_rest(above, rest, column)
+}
+
+/// All columns.
+pub fn eliminate_columns<E: Enclosure>(rows: &mut [Vec<Rect<E>>]) -> Result<(), InverseFault>
+    requires few { length rows.old ≤ 4096 }
+    ensures value { bind result (λ _. Ok (map (λ r. map (box_of E.ends) r.items) rows.new))
+        ≡ columns_from E.SCALE 0 (length rows.old) (map (λ r. map (box_of E.ends) r.items) rows.old) }
+    ensures wide { (w : ℕ) → All (λ r. length r.items ≡ w) rows.old → All (λ r. length r.items ≡ w) rows.new }
+{
+    for column in 0..rows.len() {
+        eliminate_column(rows, column)?;
+    }
+    Ok(())
+}

@@ -1,0 +1,14 @@
+// The stated inverse of the middle of a square matrix of complex intervals.
+#![tactic(auto)]
+
+mod bench;
+mod columns;
+mod fault;
+mod point;
+mod rows;
+mod writing;
+
+pub use bench::MiddleInverse;
+pub use fault::InverseFault;
+pub use point::{nought_point, size_of};
+pub use writing::write_unit;
