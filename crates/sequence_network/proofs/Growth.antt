@@ -12,7 +12,8 @@ use Rattle.net_branch.specs.Whole.{IsWithinLimits}
 use Rattle.net_branch.specs.declared.network.Network.{Network as BuiltNetwork}
 use Rattle.study_model.specs.declared.words.Sequence.{Sequence}
 use Rattle.study_model.specs.declared.records.Study.{Study}
-use Rattle.sequence_network.specs.Networks.{StudyElement, of_line, of_transformer, of_load, of_bank, of_filter, expansion_of, elements_of, with_elements, bus_nodes, network_of}
+use Rattle.study_model.specs.Elements.{StudyElement, of_line, of_transformer, of_load, of_bank, of_filter, elements_of}
+use Rattle.sequence_network.specs.Networks.{expansion_of, with_elements, bus_nodes, network_of}
 
 -- one element more
 pub element_step : {A : Type 0} (study : Study) (sequence : Sequence) (of : A → StudyElement) (n m : Network) (owner : ℕ) (xs : List A) (i : ℕ) (x : A) (rest : List StudyElement)

@@ -11,7 +11,8 @@ use Rattle.study_model.specs.declared.fault.StudyFault.{StudyFault}
 use Rattle.study_model.specs.declared.records.ScanItem.{ScanItem}
 use Rattle.study_model.specs.declared.records.Study.{Study}
 use Rattle.element_parts.specs.Expansion.{with_element}
-use Rattle.sequence_network.specs.Networks.{StudyElement, expansion_of, elements_of, with_elements, bus_nodes, network_of}
+use Rattle.study_model.specs.Elements.{StudyElement, elements_of}
+use Rattle.sequence_network.specs.Networks.{expansion_of, with_elements, bus_nodes, network_of}
 use Rattle.sequence_network.specs.Refusals.{IsLiveScan, IsFloatingBus, IsFloatingScan, AreLiveBuses, IsLiveRefusal, HasLiveNetworks}
 use Rattle.sequence_network.specs.Refusals.IsFloatingBus.{floating_bus}
 use Rattle.sequence_network.specs.Refusals.IsFloatingScan.{floating_scan}

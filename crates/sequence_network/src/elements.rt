@@ -8,7 +8,8 @@ ghost use Rattle.net_branch.specs.Whole.{IsWholeNetwork};
 ghost use Rattle.net_branch.specs.declared.fault.AddFault.TheVariants.{NoMemory};
 ghost use Rattle.element_parts.specs.Small.{HaveSmallLaws};
 ghost use Rattle.element_parts.specs.Expansion.{with_element, is_too_large};
-ghost use Rattle.sequence_network.specs.Networks.{StudyElement, of_source, of_line, of_transformer, of_load, of_bank, of_filter, IsLawfulElement, expansion_of, with_elements};
+ghost use Rattle.study_model.specs.Elements.{StudyElement, of_source, of_line, of_transformer, of_load, of_bank, of_filter};
+ghost use Rattle.sequence_network.specs.Networks.{IsLawfulElement, expansion_of, with_elements};
 
 use line_pi::add_line;
 use load_filter_model::{add_bank, add_filter, add_load, add_source};

@@ -4,7 +4,8 @@ use Rattle.network_theory.specs.Network.{IsUncoupled}
 use Rattle.net_branch.specs.Exact.{exact_network}
 use Rattle.net_branch.specs.Whole.{IsWholeNetwork}
 use Rattle.element_parts.specs.Small.{HaveSmallLaws}
-use Rattle.sequence_network.specs.Networks.{StudyElement, with_elements}
+use Rattle.study_model.specs.Elements.{StudyElement}
+use Rattle.sequence_network.specs.Networks.{with_elements}
 use Rattle.sequence_network.proofs.elements.add_section.Given as goal
 
 abbrev pub invariant-loop-element : goal.invariant-loop-element
