@@ -1,0 +1,177 @@
+// Matrices of one and of two rows.
+
+use certified_inverse::{InverseBench, InverseOutcome};
+use complex_interval::{Enclosure, Rect, Span};
+use plain_elimination::Matrix;
+use std::alloc::Global;
+use std::process::Abort;
+use std::test::Fail;
+
+const UNIT: i64 = 1_099_511_627_776;
+
+/// The raw ends of a real part, and those of an imaginary one.
+type Cell = [i64; 4];
+
+/// The raw value and the error; a step; row sums; or nothing.
+#[derive(Clone, Copy, PartialEq, Debug)]
+enum Expected {
+    Enclosed(i64, i64, u64),
+    NoInverse(u32),
+    NotContracting(u64),
+    OutOfRange,
+}
+
+fn found(outcome: InverseOutcome) -> Expected {
+    match outcome {
+        InverseOutcome::Enclosed { re, im, error } => Expected::Enclosed(re, im, error),
+        InverseOutcome::NoInverse(column) => Expected::NoInverse(column),
+        InverseOutcome::NotContracting(theta) => Expected::NotContracting(theta),
+        InverseOutcome::OutOfRange => Expected::OutOfRange,
+    }
+}
+
+/// The number of these multiples of 1 alone.
+const fn whole(re: i8, im: i8) -> Cell {
+    let re = re as i64 * UNIT;
+    let im = im as i64 * UNIT;
+    [re, re, im, im]
+}
+
+/// A real number, 1/64 more and less.
+const fn about(re: i8) -> Cell {
+    let re = re as i64 * UNIT;
+    [re - UNIT / 64, re + UNIT / 64, 0, 0]
+}
+
+fn entry([re_low, re_high, im_low, im_high]: Cell) -> Result<Rect<Span<40>>, Fail> {
+    let re = Span::from_ends(re_low, re_high).ok_or("out of range")?;
+    let im = Span::from_ends(im_low, im_high).ok_or("out of range")?;
+    Ok(Rect { re, im })
+}
+
+/// Compares the outcome of one entry.
+fn check_one(
+    rt: &impl Abort,
+    alloc: Global,
+    label: &str,
+    cell: Cell,
+    expected: Expected,
+) -> Result<(), Fail> {
+    let mut matrix = Matrix::new(alloc, 1)?;
+    matrix.set(0, 0, entry(cell)?);
+    let mut bench = InverseBench::new(alloc, 1)?;
+    assert_eq!(rt; found(bench.enclose(&matrix, 0)), expected, "{label}");
+    Ok(())
+}
+
+/// Compares the outcomes of both columns of two rows, on one bench.
+fn check_two(
+    rt: &impl Abort,
+    alloc: Global,
+    label: &str,
+    cells: [Cell; 4],
+    expected: [Expected; 2],
+) -> Result<(), Fail> {
+    let mut matrix = Matrix::new(alloc, 2)?;
+    matrix.set(0, 0, entry(cells[0])?);
+    matrix.set(0, 1, entry(cells[1])?);
+    matrix.set(1, 0, entry(cells[2])?);
+    matrix.set(1, 1, entry(cells[3])?);
+    let mut bench = InverseBench::new(alloc, 2)?;
+    assert_eq!(rt; found(bench.enclose(&matrix, 0)), expected[0], "{label}");
+    assert_eq!(rt; found(bench.enclose(&matrix, 1)), expected[1], "{label}");
+    Ok(())
+}
+
+#[test]
+fn one_entry(rt: HostRuntime) -> Result<(), Fail> {
+    let cases = [
+        ("zero", [0, 0, 0, 0], Expected::NoInverse(1)),
+        (
+            "row sums of 1",
+            [0, 2 * UNIT, 0, 0],
+            Expected::NotContracting(1_099_511_627_776),
+        ),
+        (
+            "exact",
+            [2 * UNIT, 2 * UNIT, 0, 0],
+            Expected::Enclosed(549_755_813_888, 0, 0),
+        ),
+        (
+            "1 to 1.5",
+            [UNIT, 3 * UNIT / 2, 0, 0],
+            Expected::Enclosed(879_609_302_220, 0, 219_902_325_557),
+        ),
+        (
+            "row sums just below 1, and an error above the range",
+            [1, 2 * UNIT - 1, 0, 0],
+            Expected::OutOfRange,
+        ),
+        (
+            "an inverse above the range",
+            [1, 1, 0, 0],
+            Expected::OutOfRange,
+        ),
+        (
+            "imaginary",
+            [0, 0, 2 * UNIT, 2 * UNIT],
+            Expected::Enclosed(0, -549_755_813_888, 0),
+        ),
+    ];
+    for (label, cell, expected) in cases {
+        check_one(&rt, rt.alloc(), label, cell, expected)?;
+    }
+    Ok(())
+}
+
+#[test]
+fn two_rows(rt: HostRuntime) -> Result<(), Fail> {
+    let cases = [
+        (
+            "rows that change places",
+            [whole(0, 0), whole(1, 0), whole(1, 0), whole(2, 0)],
+            [
+                Expected::Enclosed(-2_199_023_255_552, 0, 0),
+                Expected::Enclosed(0, 0, 0),
+            ],
+        ),
+        (
+            "no pivot in the second column",
+            [whole(1, 0), whole(1, 0), whole(1, 0), whole(1, 0)],
+            [Expected::NoInverse(2), Expected::NoInverse(2)],
+        ),
+        (
+            "the first of two pivots of one size",
+            [whole(1, 0), whole(-7, 0), whole(-1, 0), whole(-7, 0)],
+            [
+                Expected::Enclosed(549_755_813_882, 0, 8),
+                Expected::Enclosed(-78_536_544_842, 0, 8),
+            ],
+        ),
+        (
+            "wide entries",
+            [about(2), about(1), about(1), about(3)],
+            [
+                Expected::Enclosed(659_706_976_666, 0, 11_277_042_338),
+                Expected::Enclosed(439_804_651_110, 0, 8_457_781_754),
+            ],
+        ),
+        (
+            "complex entries",
+            [
+                whole(1, 1),
+                whole(1, 0),
+                whole(1, 0),
+                [UNIT, UNIT, -UNIT, -UNIT + UNIT / 32],
+            ],
+            [
+                Expected::Enclosed(1_099_234_672_707, -1_116_959_797_184, 37_184_028_048),
+                Expected::Enclosed(1_134_407_966_592, 1_098_957_717_636, 73_206_055_212),
+            ],
+        ),
+    ];
+    for (label, cells, expected) in cases {
+        check_two(&rt, rt.alloc(), label, cells, expected)?;
+    }
+    Ok(())
+}
