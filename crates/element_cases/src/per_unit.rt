@@ -1,0 +1,61 @@
+// Values in per unit worked by hand, for a base of 100 MVA: 4 ohms at 33 kV are 400/1089; a rating of 4 is 25 as an impedance and 0.04 as a
+// susceptance; 4 microsiemens at 33 kV are 0.00004356; 4 percent on 33 MVA are 4/33.
+use crate::expected::assert_value;
+use element_parts::{
+    as_written, impedance, impedance_of_rating, impedance_share, inverse_ratio, percent,
+    susceptance_of_rating, susceptance_share, triple_impedance, zero,
+};
+use fixed_decimal::Decimal;
+use std::test::Fail;
+
+const BASE: Decimal = Decimal {
+    millionths: 100_000_000,
+};
+
+const KV33: Decimal = Decimal {
+    millionths: 33_000_000,
+};
+
+const FOUR: Decimal = Decimal {
+    millionths: 4_000_000,
+};
+
+#[test]
+fn values_in_per_unit(rt: HostRuntime) -> Result<(), Fail> {
+    let cases = [
+        ("as written", as_written(FOUR), (4, 1)),
+        ("zero", zero(), (0, 1)),
+        ("impedance", impedance(FOUR, BASE, KV33), (400, 1_089)),
+        (
+            "a quarter of it",
+            impedance_share(FOUR, BASE, KV33, 4),
+            (100, 1_089),
+        ),
+        (
+            "three times it",
+            triple_impedance(FOUR, BASE, KV33),
+            (1_200, 1_089),
+        ),
+        (
+            "half of a susceptance",
+            susceptance_share(FOUR, BASE, KV33, 2),
+            (2_178, 100_000_000),
+        ),
+        (
+            "impedance of a rating",
+            impedance_of_rating(FOUR, BASE),
+            (25, 1),
+        ),
+        (
+            "susceptance of a rating",
+            susceptance_of_rating(FOUR, BASE),
+            (1, 25),
+        ),
+        ("percent", percent(FOUR, BASE, KV33), (4, 33)),
+        ("inverse ratio", inverse_ratio(FOUR), (1, 4)),
+    ];
+    for (label, found, wanted) in cases {
+        assert_value(&rt, label, found, wanted)?;
+    }
+    Ok(())
+}
