@@ -8,7 +8,7 @@ use std::test::Fail;
 pub const SCAN: [&str; 2] = ["scan", "study.toml"];
 
 /// What a run answers: its status, and the bytes on standard output and standard error.
-#[derive(Drop)]
+#[derive(Clone, Copy)]
 pub struct Answer<'a> {
     pub status: u8,
     pub out: &'a str,

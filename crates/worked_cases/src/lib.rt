@@ -4,7 +4,11 @@
 #[cfg(test)]
 mod answers;
 #[cfg(test)]
+mod faults;
+#[cfg(test)]
 mod networks;
+#[cfg(test)]
+mod puts;
 #[cfg(test)]
 mod readings;
 #[cfg(test)]

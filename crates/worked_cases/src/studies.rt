@@ -162,6 +162,74 @@ summary,s1,6,2,4,0,1
 end,3
 ";
 
+/// The same band twice: a report of two regions, with cleared boxes between them.
+pub const TWO_RESONANCES: &str = r#"study = { version = 1, mva = "100" }
+bus = [{ name = "B1", kv = "10" }]
+source = [{ name = "S1", bus = "B1", r = "0.1", x = "1" }]
+bank = [{ name = "K1", bus = "B1", q = "4" }]
+scan = [
+    { name = "s1", bus = "B1", from = "3", to = "7", threshold = "20", finest = "0.125", locate = "0.5" },
+    { name = "s2", bus = "B1", from = "3", to = "7", threshold = "20", finest = "0.125", locate = "0.5" },
+]
+"#;
+
+pub const TWO_RESONANCES_REPORT: &str =
+    r"scan,s1,B1,positive,3.000000,7.000000,20.000000,elimination
+box,1,3.000000,4.000000,cleared,-,-
+box,2,4.000000,4.500000,peak,4.500000,23.584458
+box,3,4.500000,5.000000,peak,4.750000,47.829051
+box,4,5.000000,5.500000,peak,5.250000,50.186343
+box,5,5.500000,6.000000,peak,5.500000,26.052232
+region,1,4.000000,6.000000,200.000000,300.000000,4,0,5.250000,50.186343
+box,6,6.000000,7.000000,cleared,-,-
+summary,s1,6,2,4,0,1
+scan,s2,B1,positive,3.000000,7.000000,20.000000,elimination
+box,1,3.000000,4.000000,cleared,-,-
+box,2,4.000000,4.500000,peak,4.500000,23.584458
+box,3,4.500000,5.000000,peak,4.750000,47.829051
+box,4,5.000000,5.500000,peak,5.250000,50.186343
+box,5,5.500000,6.000000,peak,5.500000,26.052232
+region,1,4.000000,6.000000,200.000000,300.000000,4,0,5.250000,50.186343
+box,6,6.000000,7.000000,cleared,-,-
+summary,s2,6,2,4,0,1
+end,3
+";
+
+/// Its lines, by their numbers.
+pub const TWO_RESONANCES_LINES: [(u32, &str); 19] = [
+    (
+        1,
+        "scan,s1,B1,positive,3.000000,7.000000,20.000000,elimination\n",
+    ),
+    (2, "box,1,3.000000,4.000000,cleared,-,-\n"),
+    (3, "box,2,4.000000,4.500000,peak,4.500000,23.584458\n"),
+    (4, "box,3,4.500000,5.000000,peak,4.750000,47.829051\n"),
+    (5, "box,4,5.000000,5.500000,peak,5.250000,50.186343\n"),
+    (6, "box,5,5.500000,6.000000,peak,5.500000,26.052232\n"),
+    (
+        7,
+        "region,1,4.000000,6.000000,200.000000,300.000000,4,0,5.250000,50.186343\n",
+    ),
+    (8, "box,6,6.000000,7.000000,cleared,-,-\n"),
+    (9, "summary,s1,6,2,4,0,1\n"),
+    (
+        10,
+        "scan,s2,B1,positive,3.000000,7.000000,20.000000,elimination\n",
+    ),
+    (11, "box,1,3.000000,4.000000,cleared,-,-\n"),
+    (12, "box,2,4.000000,4.500000,peak,4.500000,23.584458\n"),
+    (13, "box,3,4.500000,5.000000,peak,4.750000,47.829051\n"),
+    (14, "box,4,5.000000,5.500000,peak,5.250000,50.186343\n"),
+    (15, "box,5,5.500000,6.000000,peak,5.500000,26.052232\n"),
+    (
+        16,
+        "region,1,4.000000,6.000000,200.000000,300.000000,4,0,5.250000,50.186343\n",
+    ),
+    (17, "box,6,6.000000,7.000000,cleared,-,-\n"),
+    (18, "summary,s2,6,2,4,0,1\n"),
+    (19, "end,3\n"),
+];
+
 /// The same without resistance: the impedance has a pole at order 5.
 pub const SHARP_RESONANCE: &str = r#"[study]
 version = 1

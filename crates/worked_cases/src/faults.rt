@@ -1,0 +1,138 @@
+// Words without a reading, and faults of files and of standard error, through the program.
+use crate::answers::{Answer, SCAN, assert_answer, shelf_with, strings};
+use crate::refusing::RefusingSink;
+use crate::studies;
+use harm_io::{MemoryShelf, MemorySink, Sink, SteadySink};
+use harmscan_core::{run, run_collected};
+use std::alloc::Global;
+use std::io;
+use std::process::Abort;
+use std::test::Fail;
+
+const WORDS_REFUSED: Answer<'static> = Answer {
+    status: 1,
+    out: "",
+    err: "harmscan: words refused\n",
+};
+
+const CANNOT_READ: Answer<'static> = Answer {
+    status: 5,
+    out: "",
+    err: "harmscan: cannot read study\n",
+};
+
+const NOT_TOML: Answer<'static> = Answer {
+    status: 2,
+    out: "",
+    err: "harmscan: study refused: 1 NotToml\n",
+};
+
+const TOO_LARGE: Answer<'static> = Answer {
+    status: 2,
+    out: "",
+    err: "harmscan: study too large\n",
+};
+
+#[test]
+fn words_without_a_reading(rt: HostRuntime) -> Result<(), Fail> {
+    let cases: [&[&str]; 10] = [
+        &[],
+        &["help"],
+        &["--help"],
+        &["scan"],
+        &["scan", ""],
+        &["scan", "-a"],
+        &["Scan", "study.toml"],
+        &["scan", "study.toml", "study.toml"],
+        &["drill", "07"],
+        &["drill", "-1"],
+    ];
+    let mut shelf = shelf_with(rt.alloc(), studies::BELOW_ITS_THRESHOLD.as_bytes())?;
+    for words in cases {
+        assert_answer(&rt, rt.alloc(), words, &mut shelf, &WORDS_REFUSED)?;
+    }
+    Ok(())
+}
+
+/// Words that could not be collected, for this cause.
+fn assert_uncollected(rt: &impl Abort, alloc: Global, cause: io::ErrorKind, answer: &Answer<'_>) {
+    let mut shelf = MemoryShelf::new(alloc);
+    let mut out = SteadySink::new(alloc);
+    let mut err = SteadySink::new(alloc);
+    let words = Err(io::Error::from(cause));
+    let status = run_collected(alloc, &words, &mut shelf, &mut out, &mut err);
+    assert_eq!(rt; err.taken(), answer.err.as_bytes());
+    assert_eq!(rt; out.taken(), answer.out.as_bytes());
+    assert_eq!(rt; status, answer.status);
+}
+
+#[test]
+fn words_that_are_not_collected(rt: HostRuntime) {
+    let no_memory = Answer {
+        status: 7,
+        out: "",
+        err: "harmscan: out of memory\n",
+    };
+    let cases = [
+        (io::ErrorKind::InvalidData, WORDS_REFUSED),
+        (io::ErrorKind::OutOfMemory, no_memory),
+    ];
+    for (cause, answer) in cases {
+        assert_uncollected(&rt, rt.alloc(), cause, &answer);
+    }
+}
+
+#[test]
+fn files_that_are_not_read(rt: HostRuntime) -> Result<(), Fail> {
+    let mut shelf = shelf_with(rt.alloc(), studies::BELOW_ITS_THRESHOLD.as_bytes())?;
+    shelf.fail_call(2)?;
+    for name in ["absent.toml", "study.toml"] {
+        assert_answer(&rt, rt.alloc(), &["scan", name], &mut shelf, &CANNOT_READ)?;
+    }
+    Ok(())
+}
+
+#[test]
+fn files_at_the_limit(rt: HostRuntime) -> Result<(), Fail> {
+    // no document from its first byte on, so that the reading is short
+    let bytes = Vec::from_elem(rt.alloc(), b']', 4_194_305)?;
+    let cases = [(4_194_304, NOT_TOML), (4_194_305, TOO_LARGE)];
+    for (size, answer) in cases {
+        let mut shelf = shelf_with(rt.alloc(), &bytes[..bytes.len().min(size)])?;
+        assert_answer(&rt, rt.alloc(), &SCAN, &mut shelf, &answer)?;
+    }
+    Ok(())
+}
+
+/// Runs the words on a shelf with a file that is no document: whatever `err` does, the status stays and `out` takes nothing.
+fn assert_status<E: Sink>(
+    rt: &impl Abort,
+    alloc: Global,
+    words: &[&str],
+    err: &mut E,
+    status: u8,
+) -> Result<(), Fail> {
+    let mut shelf = shelf_with(alloc, b"[study")?;
+    let mut out = SteadySink::new(alloc);
+    let answer = run(alloc, &strings(alloc, words)?, &mut shelf, &mut out, err);
+    assert_eq!(rt; answer, status);
+    assert_eq!(rt; out.taken(), b"".as_slice());
+    Ok(())
+}
+
+#[test]
+fn standard_error_changes_no_status(rt: HostRuntime) -> Result<(), Fail> {
+    let cases: [(&[&str], u8); 3] = [
+        (&["help"], 1),
+        (&["scan", "study.toml"], 2),
+        (&["scan", "absent.toml"], 5),
+    ];
+    for (words, status) in cases {
+        let mut failing = MemorySink::new(rt.alloc());
+        failing.fail_call(1, 8)?;
+        assert_status(&rt, rt.alloc(), words, &mut failing, status)?;
+        assert_eq!(rt; failing.taken(), b"harmscan".as_slice());
+        assert_status(&rt, rt.alloc(), words, &mut RefusingSink::new(), status)?;
+    }
+    Ok(())
+}
