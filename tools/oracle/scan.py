@@ -1,0 +1,460 @@
+#!/usr/bin/env python3
+"""The report of `harmscan scan STUDY`, by another program.
+
+usage: scan.py STUDY
+
+It follows docs/elements.md, arithmetic.md, admittance.md, elimination.md, scan.md and report.md over Python's whole numbers and
+exact fractions, and shares no code with harmscan. It takes accepted studies of the sequence model alone, and judges nothing: of a
+study that harmscan refuses it says nothing, or anything. It is slow: a test of a box takes milliseconds.
+"""
+import sys
+import tomllib
+from fractions import Fraction
+
+LIMIT = 1 << 62
+MILLION = 10 ** 6
+
+
+class NoValue(Exception):
+    """A step of the interval arithmetic has no value."""
+
+
+# ---- numbers of a study
+
+def decimal(value):
+    return Fraction(value)
+
+
+def millionths(value):
+    whole = decimal(value) * MILLION
+    assert whole.denominator == 1
+    return whole.numerator
+
+
+def six(n):
+    return f"{n // MILLION}.{n % MILLION:06d}"
+
+
+# ---- intervals: pairs of whole ends in units of 1/2^S
+
+def floor_div(a, b):
+    return a // b
+
+
+def ceil_div(a, b):
+    return -((-a) // b)
+
+
+def ends(low, high):
+    if low < -LIMIT or high > LIMIT:
+        raise NoValue
+    assert low <= high
+    return (low, high)
+
+
+class Arithmetic:
+    """Operations on ends at one scale."""
+
+    def __init__(self, scale):
+        self.scale = scale
+        self.one_raw = 1 << scale
+
+    def range(self, a, b):
+        a, b = a * self.one_raw, b * self.one_raw
+        return ends(floor_div(a.numerator, a.denominator), ceil_div(b.numerator, b.denominator))
+
+    def of(self, x):
+        return self.range(x, x)
+
+    def add(self, x, y):
+        return ends(x[0] + y[0], x[1] + y[1])
+
+    def sub(self, x, y):
+        return ends(x[0] - y[1], x[1] - y[0])
+
+    def mul(self, x, y):
+        products = [p * q for p in x for q in y]
+        return ends(min(products) >> self.scale, -((-max(products)) >> self.scale))
+
+    def square(self, x):
+        a, b = x[0] * x[0], x[1] * x[1]
+        if x[0] <= 0 <= x[1]:
+            return ends(0, -((-max(a, b)) >> self.scale))
+        return ends(min(a, b) >> self.scale, -((-max(a, b)) >> self.scale))
+
+    def div(self, x, y):
+        if y[0] <= 0 <= y[1]:
+            raise NoValue
+        # the floors and ceilings of the four quotients of ends
+        low = min(floor_div(p << self.scale, q) for p in x for q in y)
+        high = max(ceil_div(p << self.scale, q) for p in x for q in y)
+        return ends(low, high)
+
+    # complex intervals: pairs of intervals
+
+    def cadd(self, x, y):
+        return (self.add(x[0], y[0]), self.add(x[1], y[1]))
+
+    def csub(self, x, y):
+        return (self.sub(x[0], y[0]), self.sub(x[1], y[1]))
+
+    def cmul(self, x, y):
+        (a, b), (c, d) = x, y
+        return (self.sub(self.mul(a, c), self.mul(b, d)), self.add(self.mul(a, d), self.mul(b, c)))
+
+    def cscale(self, x, factor):
+        return (self.mul(x[0], factor), self.mul(x[1], factor))
+
+    def clipped(self, t, side):
+        """The part of t on the side of zero where `side` lies."""
+        if side[0] > 0:
+            if t[1] < 0:
+                raise NoValue
+            return (max(t[0], 0), t[1])
+        if t[0] > 0:
+            raise NoValue
+        return (t[0], min(t[1], 0))
+
+    def cdiv(self, x, y):
+        (a, b), (c, d) = x, y
+        if mig(c) == 0 and mig(d) == 0:
+            raise NoValue
+        if mig(c) >= mig(d):
+            rho = self.div(d, c)
+            e = self.add(c, self.clipped(self.mul(d, rho), c))
+            return (self.div(self.add(a, self.mul(b, rho)), e), self.div(self.sub(b, self.mul(a, rho)), e))
+        rho = self.div(c, d)
+        e = self.add(d, self.clipped(self.mul(c, rho), d))
+        return (self.div(self.add(self.mul(a, rho), b), e), self.div(self.sub(self.mul(b, rho), a), e))
+
+
+def mig(x):
+    return 0 if x[0] <= 0 <= x[1] else min(abs(x[0]), abs(x[1]))
+
+
+def mag(x):
+    return max(abs(x[0]), abs(x[1]))
+
+
+def low_square(z):
+    return mig(z[0]) ** 2 + mig(z[1]) ** 2
+
+
+def high_square(z):
+    return mag(z[0]) ** 2 + mag(z[1]) ** 2
+
+
+NOUGHT = ((0, 0), (0, 0))
+
+
+# ---- networks: branches are (taps, law); a tap is (node, ratio)
+
+class Network:
+    def __init__(self, buses):
+        self.buses = buses
+        self.nodes = buses
+        self.branches = []
+
+    def inner(self):
+        self.nodes += 1
+        return self.nodes - 1
+
+    def series(self, taps, r, x, xc=Fraction(0), k=Fraction(0), m=Fraction(1)):
+        self.branches.append((taps, ("series", r, k, m, x, xc)))
+
+    def shunt(self, node, b):
+        self.branches.append(([(node, Fraction(1))], ("shunt", b)))
+
+    def live(self):
+        live = set()
+        while True:
+            before = len(live)
+            for taps, _ in self.branches:
+                if len(taps) == 1 or any(n in live for n, _ in taps):
+                    live.update(n for n, _ in taps)
+            if len(live) == before:
+                return live
+
+
+def ground(node):
+    return [(node, Fraction(1))]
+
+
+def between(a, b):
+    return [(a, Fraction(1)), (b, Fraction(-1))]
+
+
+class Study:
+    def __init__(self, table):
+        study = table["study"]
+        self.mva = decimal(study["mva"])
+        self.hz = decimal(study.get("hz", 50))
+        self.scale = study.get("scale", 40)
+        self.table = table
+        self.kv = [decimal(bus["kv"]) for bus in table["bus"]]
+        self.bus = {bus["name"]: number for number, bus in enumerate(table["bus"])}
+
+    def ohms(self, z, v):
+        return decimal(z) * self.mva / (v * v)
+
+    def siemens(self, b, v):
+        return decimal(b) * v * v / (self.mva * MILLION)
+
+    def skin(self, entry):
+        return {"k": decimal(entry.get("skin_k", 0)), "m": decimal(entry.get("skin_m", 1))}
+
+    def network(self, zero):
+        net = Network(len(self.kv))
+        for kind in ("source", "line", "transformer", "load", "bank", "filter"):
+            for entry in self.table.get(kind, []):
+                getattr(self, kind)(net, entry, zero)
+        return net
+
+    def source(self, net, e, zero):
+        r, x = ("r0", "x0") if zero else ("r", "x")
+        if r in e:
+            bus = self.bus[e["bus"]]
+            v = self.kv[bus]
+            net.series(ground(bus), self.ohms(e[r], v), self.ohms(e[x], v), **self.skin(e))
+
+    def line(self, net, e, zero):
+        r, x, b = ("r0", "x0", "b0") if zero else ("r", "x", "b")
+        if r not in e:
+            return
+        start, end = self.bus[e["from"]], self.bus[e["to"]]
+        v = self.kv[start]
+        count = e.get("sections", 1)
+        inner = [net.inner() for _ in range(count - 1)]
+        nodes = [start] + inner + [end]
+        shunt = self.siemens(e.get(b, 0), v) / (2 * count)
+        for near, far in zip(nodes, nodes[1:]):
+            net.series(between(near, far), self.ohms(e[r], v) / count, self.ohms(e[x], v) / count, **self.skin(e))
+            if shunt > 0:
+                net.shunt(near, shunt)
+                net.shunt(far, shunt)
+
+    def transformer(self, net, e, zero):
+        sides = {"from": self.bus[e["from"]], "to": self.bus[e["to"]]}
+        base = 100 * decimal(e["mva"])
+        leakage = (decimal(e["r"]) * self.mva / base, decimal(e["x"]) * self.mva / base)
+        up = 1 / decimal(e.get("ratio", 1))
+        ways = [e.get("from_conn", "star"), e.get("to_conn", "star")]
+        if zero:
+            if sorted(ways) not in (["grounded", "grounded"], ["delta", "grounded"]):
+                return
+            for side, way in zip(("from", "to"), ways):
+                rn, xn = decimal(e.get(side + "_rn", 0)), decimal(e.get(side + "_xn", 0))
+                if way == "grounded" and (rn, xn) != (0, 0):
+                    v = self.kv[sides[side]]
+                    node = net.inner()
+                    net.series(between(sides[side], node), self.ohms(3 * rn, v), self.ohms(3 * xn, v), **self.skin(e))
+                    sides[side] = node
+        taps = [(sides["from"], up), (sides["to"], Fraction(-1))]
+        if zero and "delta" in ways:
+            taps = taps[:1] if ways[0] == "grounded" else [(sides["to"], Fraction(1))]
+        net.series(taps, *leakage, **self.skin(e))
+
+    def load(self, net, e, zero):
+        if zero and not e.get("grounded", False):
+            return
+        bus = self.bus[e["bus"]]
+        s = self.mva
+        if e["model"] == "series":
+            net.series(ground(bus), self.ohms(e["r"], self.kv[bus]), self.ohms(e["x"], self.kv[bus]))
+            return
+        p, q = decimal(e["p"]), decimal(e["q"])
+        if e["model"] == "parallel":
+            if p > 0:
+                net.series(ground(bus), s / p, Fraction(0))
+            if q > 0:
+                net.series(ground(bus), Fraction(0), s / q)
+            return
+        net.series(ground(bus), s / p, 73 * s / (1000 * p))
+        if 670 * q > 74 * p:
+            net.series(ground(bus), Fraction(0), 100 * s / (670 * q - 74 * p))
+
+    def bank(self, net, e, zero):
+        if not zero or e.get("grounded", False):
+            net.shunt(self.bus[e["bus"]], decimal(e["q"]) / self.mva)
+
+    def filter(self, net, e, zero):
+        if zero and not e.get("grounded", False):
+            return
+        bus = self.bus[e["bus"]]
+        xc = self.mva / decimal(e["q"])
+        n, quality = decimal(e["order"]), decimal(e["quality"])
+        if e["kind"] == "single":
+            net.series(ground(bus), xc / (n * quality), xc / (n * n), xc)
+            return
+        node = net.inner()
+        net.series(between(bus, node), Fraction(0), Fraction(0), xc)
+        if e["kind"] == "highpass":
+            net.series(ground(node), quality * xc / n, Fraction(0))
+            net.series(ground(node), Fraction(0), xc / (n * n))
+        else:
+            x = xc / (n * n - 1)
+            net.series(ground(node), quality * n * x, Fraction(0))
+            net.series(ground(node), Fraction(0), x, x)
+
+
+# ---- the matrix of a box, and its reduction
+
+class Scan:
+    def __init__(self, study, entry):
+        self.a = Arithmetic(study.scale)
+        self.bus = study.bus[entry["bus"]]
+        net = study.network(entry.get("network", "positive") == "zero")
+        live = net.live()
+        ordering = [n for n in range(net.buses, net.nodes) if n in live]
+        ordering += [n for n in range(net.buses) if n in live and n != self.bus]
+        ordering += [self.bus]
+        self.place = {node: place for place, node in enumerate(ordering)}
+        self.size = len(ordering)
+        self.branches = [b for b in net.branches if b[0][0][0] in live]
+        self.prepared = None
+        v, s = millionths(str(study.table["bus"][self.bus]["kv"])), millionths(str(study.table["study"]["mva"]))
+        threshold = millionths(str(entry["threshold"]))
+        # 2^S/T, with T = threshold·s/v²
+        top, bottom = v * v << study.scale, threshold * s
+        self.clear_bound, self.above_bound = ceil_div(top, bottom), floor_div(top, bottom)
+        self.ohms_top, self.ohms_bottom = v * v << study.scale, s
+        self.finest = millionths(str(entry["finest"]))
+        self.locate = millionths(str(entry.get("locate", entry["finest"])))
+        self.lo, self.hi = millionths(str(entry["from"])), millionths(str(entry["to"]))
+
+    def parameters(self, branch):
+        taps, law = branch
+        factors = [(self.place[n], self.place[o], self.a.mul(self.a.of(c), self.a.of(d))) for n, c in taps for o, d in taps]
+        return law[0], law[0] == "series" and law[2] == 0, [self.a.of(x) for x in law[1:]], factors
+
+    def admittance(self, h, branch):
+        a = self.a
+        kind, plain, values, _ = branch
+        if kind == "shunt":
+            return ((0, 0), a.mul(h, values[0]))
+        r, k, m, x, xc = values
+        one = a.of(Fraction(1))
+        if not plain:
+            r = a.mul(r, a.sub(a.add(one, k), a.div(a.mul(k, m), a.add(m, a.square(h)))))
+        reactance = a.sub(a.mul(h, x), a.div(xc, h))
+        return a.cdiv((one, (0, 0)), (r, reactance))
+
+    def reduced(self, lo, hi):
+        a = self.a
+        if self.prepared is None:
+            self.prepared = [self.parameters(b) for b in self.branches]
+        h = ends(floor_div(lo << a.scale, MILLION), ceil_div(hi << a.scale, MILLION))
+        rows = [[NOUGHT] * self.size for _ in range(self.size)]
+        for branch in self.prepared:
+            y = self.admittance(h, branch)
+            for row, column, factor in branch[3]:
+                rows[row][column] = a.cadd(rows[row][column], a.cscale(y, factor))
+        for step in range(self.size - 1):
+            pivot = rows[step]
+            head = pivot[step]
+            if all(part[0] <= 0 <= part[1] for part in head):
+                raise NoValue
+            for row in rows[step + 1:]:
+                if row[step] == NOUGHT:
+                    continue
+                factor = a.cdiv(row[step], head)
+                for column in range(step + 1, self.size):
+                    row[column] = a.csub(row[column], a.cmul(factor, pivot[column]))
+        value = rows[-1][-1]
+        # H·e with e = 0
+        return value
+
+    def value(self, lo, hi):
+        try:
+            return self.reduced(lo, hi)
+        except NoValue:
+            return None
+
+    def is_clear(self, lo, hi):
+        y = self.value(lo, hi)
+        return self.clear_bound <= LIMIT and y is not None and low_square(y) >= self.clear_bound ** 2
+
+    def micro_ohms(self, at):
+        y = self.value(at, at)
+        if self.above_bound > LIMIT or y is None or not (high_square(y) < self.above_bound ** 2 and low_square(y) > 0):
+            return None
+        return self.ohms_top // (self.ohms_bottom * root_ceil(high_square(y)))
+
+    def boxes(self):
+        todo = [(self.lo, self.hi)]
+        while todo:
+            lo, hi = todo.pop()
+            if self.is_clear(lo, hi):
+                yield lo, hi, "cleared", None, None
+                continue
+            middle = (lo + hi) // 2
+            if hi - lo <= self.locate:
+                found = next(((at, ohms) for at in (middle, lo, hi) if (ohms := self.micro_ohms(at)) is not None), None)
+                if found:
+                    yield lo, hi, "peak", *found
+                    continue
+            if hi - lo <= self.finest:
+                yield lo, hi, "undecided", None, None
+                continue
+            todo += [(middle, hi), (lo, middle)]
+
+
+def root_ceil(n):
+    import math
+    root = math.isqrt(n)
+    return root if root * root == n else root + 1
+
+
+# ---- the report
+
+def dash(value):
+    return "-" if value is None else six(value)
+
+
+def region_row(number, run, hz):
+    lo, hi = run[0][0], run[-1][1]
+    peaks = [box for box in run if box[2] == "peak"]
+    best = max(peaks, key=lambda box: box[4]) if peaks else (None,) * 5
+    low, high = lo * hz // MILLION, ceil_div(hi * hz, MILLION)
+    return f"region,{number},{six(lo)},{six(hi)},{six(low)},{six(high)},{len(peaks)},{len(run) - len(peaks)},{dash(best[3])},{dash(best[4])}"
+
+
+def report(table):
+    study = Study(table)
+    hz = millionths(str(table["study"].get("hz", 50)))
+    status = 0
+    for entry in table.get("scan", []):
+        scan = Scan(study, entry)
+        threshold = six(millionths(str(entry["threshold"])))
+        yield f"scan,{entry['name']},{entry['bus']},{entry.get('network', 'positive')},{six(scan.lo)},{six(scan.hi)},{threshold},elimination"
+        counts, regions, run, number = {"cleared": 0, "peak": 0, "undecided": 0}, 0, [], 0
+        for box in scan.boxes():
+            if box[2] == "cleared" and run:
+                regions += 1
+                yield region_row(regions, run, hz)
+                run = []
+            number += 1
+            counts[box[2]] += 1
+            yield f"box,{number},{six(box[0])},{six(box[1])},{box[2]},{dash(box[3])},{dash(box[4])}"
+            if box[2] != "cleared":
+                run.append(box)
+        if run:
+            regions += 1
+            yield region_row(regions, run, hz)
+        yield f"summary,{entry['name']},{number},{counts['cleared']},{counts['peak']},{counts['undecided']},{regions}"
+        if counts["peak"]:
+            status = 3
+        elif counts["undecided"] and status == 0:
+            status = 4
+    yield f"end,{status}"
+
+
+def main():
+    with open(sys.argv[1], "rb") as file:
+        table = tomllib.load(file)
+    for line in report(table):
+        print(line)
+
+
+if __name__ == "__main__":
+    main()
