@@ -28,9 +28,6 @@ use Rattle.study_model.specs.declared.words.Sequence.TheVariants.{Positive, Zero
 use Rattle.net_branch.specs.Exact.{exact_network}
 use Rattle.net_branch.specs.Whole.{IsWholeNetwork}
 use Rattle.net_branch.specs.declared.network.Network.{Network as BuiltNetwork}
-use Rattle.net_branch.specs.declared.fault.AddFault.{AddFault}
-use Rattle.net_branch.specs.declared.fault.AddFault.TheVariants.{TooMany, NoMemory}
-use Rattle.element_parts.specs.Expansion.{is_too_large}
 use Rattle.element_parts.proofs.Values.{kv_within}
 use Rattle.sequence_network.specs.Networks.{network_of}
 use Rattle.sequence_network.specs.Refusals.{IsLiveScan, HasLiveNetworks}
@@ -133,13 +130,7 @@ walk_boxes scale study scan network walk e n can w =
     ∙ ap (λ (x : List ℕ). boxes scale (spec_of study scan) (network_of study scan.network) (network_of study scan.network) x) order
     ∙ ap (λ (x : ℕ). boxes x (spec_of study scan) (network_of study scan.network) (network_of study scan.network) (order_of (network_of study scan.network) scan.bus)) e
 
--- networks that are within the limits lack nothing but memory
-pub no_memory : (study : Study) (sequence : Sequence) (fault : AddFault) → HasLiveNetworks study → (fault ≢ NoMemory → IsTrue (is_too_large (network_of study sequence))) → fault ≡ NoMemory
-no_memory study sequence NoMemory n h = refl
-no_memory study Positive TooMany n h = let large = h (λ e. cc) in let fits = n.room.positive in absurd (cc)
-no_memory study Zero TooMany n h = let large = h (λ e. cc) in let fits = n.room.zero in absurd (cc)
-
--- a network that was built and for which a walk was made can be scanned
+-- what the walk of a network was made of: the network can be scanned
 pub can_scan : (scale : ℕ) (study : Study) (scan : ScanItem) (network : BuiltNetwork) (walk : Scanning) → exact_network network ≡ network_of study scan.network → IsWholeNetwork network
     → IsScanOf scale (exact_network network) (exact_network network) scan.bus (spec_of study scan) walk → CanScan study scan
 can_scan scale study scan network walk e w is =

@@ -9,50 +9,54 @@ ghost use Rattle.sequence_network.specs.Refusals.{HasLiveNetworks};
 ghost use Rattle.study_model.specs.declared.fault.StudyFault.{StudyFault};
 ghost use Rattle.harmscan_core.specs.Accepted.{IsAccepted, IsRefused};
 ghost use Rattle.harmscan_core.specs.Words.{reading};
+ghost use Rattle.harmscan_core.specs.Plan.{AreNetworksOf, study_alone};
 ghost use Rattle.harmscan_core.specs.Outcome.{ReadsStudy, RefusesNetworks, Reports, Happens, HappensFor, Runs, IsComplete, IsWritten, WritesReport, Asks, IsRefusal, StopsWithin, RefusesFor, EndsAtOnce, longest_file};
 
 use crate::limits::LONGEST_FILE;
 use crate::lines::say;
 use crate::outcome::{Outcome, after_fault, after_fetch, after_put, after_words, status};
+use crate::plan::AcceptedStudy;
 use crate::report::put_report;
 use crate::scan::plan_of;
 use crate::words::reading;
 use complex_interval::{Enclosure, Span};
 use harm_io::{Shelf, Sink};
-use sequence_network::check_live;
+use sequence_network::{Networks, networks_of};
 use std::alloc::Global;
 use std::io;
 use std::io::ErrorKind;
 use study_model::Study;
 use study_reader::read_study;
 
-/// Whether the networks of a study are accepted.
+/// The networks of a study, where they are accepted.
 #[tactic(auto, using(crate::proofs::Accepted::networks_end))]
-fn check_networks(alloc: Global, study: &Study) -> Result<(), Outcome>
+fn accepted_networks(alloc: Global, study: &Study) -> Result<Networks, Outcome>
     requires { IsBuilt study.now }
-    ensures accepted { OnOk result (HasLiveNetworks study.now) }
+    ensures networks { IfOk result (AreNetworksOf study.now) }
+    ensures live { OnOk result (HasLiveNetworks study.now) }
     ensures refused { IfErr result (RefusesNetworks study.now) }
 {
-    match check_live(alloc, study) {
-        Ok(()) => Ok(()),
+    match networks_of(alloc, study) {
+        Ok(networks) => Ok(networks),
         Err(fault) => Err(after_fault(fault)),
     }
 }
 
 /// The study of a file, where it is accepted.
 #[tactic(auto, using(crate::proofs::Accepted::networks_refused, crate::proofs::Accepted::fetch_refused, crate::proofs::Accepted::unread_refused))]
-fn study_from<F: Shelf>(alloc: Global, name: &str, shelf: &mut F) -> Result<Study, Outcome>
-    ensures read { ReadsStudy name.now (F.state shelf.old) (F.state shelf.new) result }
-    ensures built { IfOk result IsBuilt }
-    ensures networks { IfOk result HasLiveNetworks }
+fn study_from<F: Shelf>(alloc: Global, name: &str, shelf: &mut F) -> Result<AcceptedStudy, Outcome>
+    ensures read { ReadsStudy name.now (F.state shelf.old) (F.state shelf.new) (study_alone result) }
+    ensures built { IfOk result (λ accepted. IsBuilt accepted.study) }
+    ensures networks { IfOk result (λ accepted. AreNetworksOf accepted.study accepted.networks) }
+    ensures live { IfOk result (λ accepted. HasLiveNetworks accepted.study) }
 {
     let bytes = match shelf.fetch(alloc, name, LONGEST_FILE) {
         Ok(bytes) => bytes,
         Err(fault) => return Err(after_fetch(fault)),
     };
     match read_study(alloc, &bytes) {
-        Ok(study) => match check_networks(alloc, &study) {
-            Ok(()) => Ok(study),
+        Ok(study) => match accepted_networks(alloc, &study) {
+            Ok(networks) => Ok(AcceptedStudy { study, networks }),
             Err(outcome) => Err(outcome),
         },
         Err(fault) => Err(after_fault(fault)),
@@ -61,13 +65,19 @@ fn study_from<F: Shelf>(alloc: Global, name: &str, shelf: &mut F) -> Result<Stud
 
 /// The report of a study at its scale: all walks are made before its first line is put.
 #[tactic(auto, using(crate::proofs::Written::not_reported))]
-fn report_at<E: Enclosure, O: Sink>(alloc: Global, study: &Study, out: &mut O) -> Outcome
+fn report_at<E: Enclosure, O: Sink>(
+    alloc: Global,
+    study: &Study,
+    networks: &Networks,
+    out: &mut O,
+) -> Outcome
     requires study { IsBuilt study.now }
-    requires networks { HasLiveNetworks study.now }
+    requires networks { AreNetworksOf study.now networks.now }
+    requires live { HasLiveNetworks study.now }
     requires scale { E.SCALE ≡ study.now.scale }
     ensures { Reports study.now (O.state out.old) (O.state out.new) result }
 {
-    match plan_of::<E>(alloc, study) {
+    match plan_of::<E>(alloc, study, networks) {
         Err(_) => Outcome::NoMemory,
         Ok(mut plan) => match put_report(study, &mut plan, out) {
             Ok(status) => Outcome::Written(status),
@@ -77,15 +87,16 @@ fn report_at<E: Enclosure, O: Sink>(alloc: Global, study: &Study, out: &mut O) -
 }
 
 /// The report of a study.
-fn report<O: Sink>(alloc: Global, study: &Study, out: &mut O) -> Outcome
+fn report<O: Sink>(alloc: Global, study: &Study, networks: &Networks, out: &mut O) -> Outcome
     requires study { IsBuilt study.now }
-    requires networks { HasLiveNetworks study.now }
+    requires networks { AreNetworksOf study.now networks.now }
+    requires live { HasLiveNetworks study.now }
     ensures { Reports study.now (O.state out.old) (O.state out.new) result }
 {
     if study.scale == 40 {
-        report_at::<Span<40>, O>(alloc, study, out)
+        report_at::<Span<40>, O>(alloc, study, networks, out)
     } else {
-        report_at::<Span<48>, O>(alloc, study, out)
+        report_at::<Span<48>, O>(alloc, study, networks, out)
     }
 }
 
@@ -95,7 +106,7 @@ fn scan<F: Shelf, O: Sink>(alloc: Global, name: &str, shelf: &mut F, out: &mut O
 {
     match study_from(alloc, name, shelf) {
         Err(outcome) => outcome,
-        Ok(study) => report(alloc, &study, out),
+        Ok(accepted) => report(alloc, &accepted.study, &accepted.networks, out),
     }
 }
 

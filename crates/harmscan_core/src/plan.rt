@@ -1,11 +1,19 @@
 // The scans of a study with their walks.
 use band_subdivision::Scan;
 use complex_interval::Enclosure;
-use study_model::ScanItem;
+use sequence_network::Networks;
+use study_model::{ScanItem, Study};
 
 /// A scan, and the walk over its band.
 #[derive(Drop)]
 pub struct PlannedScan<E: Enclosure> {
     pub scan: ScanItem,
     pub walk: Scan<E>,
+}
+
+/// A study that is accepted, with its networks.
+#[derive(Drop)]
+pub struct AcceptedStudy {
+    pub study: Study,
+    pub networks: Networks,
 }

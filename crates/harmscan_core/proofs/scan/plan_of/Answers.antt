@@ -5,11 +5,12 @@ use Rattle.harmscan_core.proofs.scan.plan_of.Goals as goal
 
 pub loop-scan-preserved : goal.loop-scan-preserved
 loop-scan-preserved g c =
-    subst (λ (l : List (PlannedScan g.row.E.Denot)). Planning c.args.study.now l c.as_slice-scan-items.result.now (c.loop-scan.scan-index + 1)) (sym c.in-Ok.ensures.items)
+    subst (λ (l : List (PlannedScan g.row.E.Denot)). Planning c.args.study.now l c.as_slice-scan-items.result.now (c.loop-scan.scan-index + 1)) (sym c.in_ok-push_back.ensures.items)
     (planning_next c.args.study.now c.loop-scan.plan.items (record { scan = c.scan-item.result; walk = c.in_ok-walk.walk }) c.as_slice-scan-items.result.now c.loop-scan.scan-index c.scan-item.result
     c.loop-scan-test.true c.scan-item.is refl (record { can = c.in_ok-walk.ensures.can; boxes = c.in_ok-walk.ensures.boxes }) c.loop-scan.invariant)
 
-pub returns-clause-plan : goal.returns-clause-plan
-returns-clause-plan g c =
-    planning_end c.args.study.now c.loop-scan.plan.items c.as_slice-scan-items.result.now c.loop-scan.scan-index (omega (arith, c.loop-scan-test.false, c.loop-scan.auto.scan-index-end)) c.as_slice-scan-items.ensures
-    c.loop-scan.invariant
+pub returns : goal.returns
+returns g c = record {
+  plan = planning_end c.args.study.now c.loop-scan.plan.items c.as_slice-scan-items.result.now c.loop-scan.scan-index (omega (arith, c.loop-scan-test.false, c.loop-scan.auto.scan-index-end)) c.as_slice-scan-items.ensures
+      c.loop-scan.invariant;
+}

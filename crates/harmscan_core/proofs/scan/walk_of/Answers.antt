@@ -4,25 +4,22 @@ use Rattle.admittance_box.specs.HeldMatrix.{HasNoGroup}
 use Rattle.band_subdivision.specs.Scan.{IsScanOf}
 use Rattle.band_subdivision.specs.ScanSpec.{IsScanSpec}
 use Rattle.band_subdivision.specs.declared.scan_spec.ScanSpec.{ScanSpec}
-use Rattle.harmscan_core.proofs.StudyFacts.{spec_in_range, no_memory, can_scan, walk_boxes}
+use Rattle.harmscan_core.proofs.StudyFacts.{spec_in_range, can_scan, walk_boxes}
 use Rattle.harmscan_core.proofs.scan.walk_of.Goals as goal
 
-pub returns-in-Err-clause-fault : goal.returns-in-Err-clause-fault
-returns-in-Err-clause-fault g c = no_memory c.args.study.now c.args.scan.now.network c.in-Err.fault c.requires.networks c.in-Err.ensures.too_many
-
 pub new-requires-clause-no_group : goal.new-requires-clause-no_group
-new-requires-clause-no_group g c = subst HasNoGroup (sym c.in-Ok.ensures.network) c.in-Ok.ensures.uncoupled
+new-requires-clause-no_group g c = subst HasNoGroup (sym c.requires.network.exact) c.requires.network.uncoupled
 
 pub new-requires-clause-spec : goal.new-requires-clause-spec
 new-requires-clause-spec g c = subst IsScanSpec (sym c.spec_of.ensures) (spec_in_range c.args.study.now c.args.scan.now c.requires.study.lawful c.requires.scan)
 
-pub returns-in-Ok-new-clause-can : goal.returns-in-Ok-new-clause-can
-returns-in-Ok-new-clause-can g c =
-    let made = subst (λ (s : ScanSpec). IsScanOf g.E.Enclosure.SCALE (exact_network c.in-Ok.network) (exact_network c.in-Ok.network) c.args.scan.now.bus s c.in-Ok-new.walk) c.spec_of.ensures c.in-Ok-new.ensures in
-    can_scan g.E.Enclosure.SCALE c.args.study.now c.args.scan.now c.in-Ok.network c.in-Ok-new.walk c.in-Ok.ensures.network c.in-Ok.ensures.whole made
+pub returns-in-Ok-clause-can : goal.returns-in-Ok-clause-can
+returns-in-Ok-clause-can g c =
+    let made = subst (λ (s : ScanSpec). IsScanOf g.E.Enclosure.SCALE (exact_network c.args.network.now) (exact_network c.args.network.now) c.args.scan.now.bus s c.in-Ok.walk) c.spec_of.ensures c.in-Ok.ensures in
+    can_scan g.E.Enclosure.SCALE c.args.study.now c.args.scan.now c.args.network.now c.in-Ok.walk c.requires.network.exact c.requires.network.whole made
 
-pub returns-in-Ok-new-clause-boxes : goal.returns-in-Ok-new-clause-boxes
-returns-in-Ok-new-clause-boxes g c =
-    let made = subst (λ (s : ScanSpec). IsScanOf g.E.Enclosure.SCALE (exact_network c.in-Ok.network) (exact_network c.in-Ok.network) c.args.scan.now.bus s c.in-Ok-new.walk) c.spec_of.ensures c.in-Ok-new.ensures in
-    let can = can_scan g.E.Enclosure.SCALE c.args.study.now c.args.scan.now c.in-Ok.network c.in-Ok-new.walk c.in-Ok.ensures.network c.in-Ok.ensures.whole made in
-    walk_boxes g.E.Enclosure.SCALE c.args.study.now c.args.scan.now (exact_network c.in-Ok.network) c.in-Ok-new.walk c.requires.scale c.in-Ok.ensures.network can made
+pub returns-in-Ok-clause-boxes : goal.returns-in-Ok-clause-boxes
+returns-in-Ok-clause-boxes g c =
+    let made = subst (λ (s : ScanSpec). IsScanOf g.E.Enclosure.SCALE (exact_network c.args.network.now) (exact_network c.args.network.now) c.args.scan.now.bus s c.in-Ok.walk) c.spec_of.ensures c.in-Ok.ensures in
+    let can = can_scan g.E.Enclosure.SCALE c.args.study.now c.args.scan.now c.args.network.now c.in-Ok.walk c.requires.network.exact c.requires.network.whole made in
+    walk_boxes g.E.Enclosure.SCALE c.args.study.now c.args.scan.now (exact_network c.args.network.now) c.in-Ok.walk c.requires.scale c.requires.network.exact can made
