@@ -1,4 +1,4 @@
-// The exact numbers 0 and 1 as intervals.
+// The exact numbers 0 and 1 as intervals: no rounding comes from them at any scale.
 ghost use Rattle.std.specs.Prelude.{◌≡◌};
 ghost use Rattle.admittance_box.specs.Exact.{zero_ends, one_ends};
 

@@ -1,4 +1,4 @@
-// Series branches: resistance, inductive and capacitive reactance.
+// Series branches. Each operation is one step of the stated order, since another order would round otherwise.
 ghost use Rattle.std.specs.Prelude.{◌≡◌, ◌&&◌};
 ghost use Rattle.std.specs.Option.{option_map};
 ghost use Rattle.complex_interval.specs.Rect.{box_of};

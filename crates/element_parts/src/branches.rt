@@ -1,4 +1,4 @@
-// Branches with one tap or two.
+// Branches with one tap or two, which is all that balanced networks have.
 ghost use Rattle.std.specs.Prelude.{◌≡◌, pos, IfOk};
 ghost use Rattle.exact_fraction.specs.Fraction.{ratio_of};
 ghost use Rattle.net_branch.specs.Exact.{exact_law, exact_branch};

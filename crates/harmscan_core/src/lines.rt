@@ -1,4 +1,4 @@
-// The lines on standard error.
+// The lines on standard error. Each is put once, and a failure there changes no status, since the status is the answer.
 ghost use Rattle.std.specs.Prelude.{◌≡◌, ◌+◌, ◌≤◌, ◌++◌, length, Some, None, if◌then◌else◌};
 ghost use Rattle.harmscan_core.specs.Lines.{line_at, place_text, number_text, refusal_text};
 ghost use Rattle.harmscan_core.specs.Outcome.{Says};

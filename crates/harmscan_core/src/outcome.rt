@@ -1,4 +1,4 @@
-// How a run ends.
+// How a run ends: one outcome, from which its status and its line follow.
 ghost use Rattle.std.specs.Prelude.{◌≡◌, ◌≢◌};
 ghost use Rattle.std.specs.IoError.{error_kind};
 ghost use Rattle.harmscan_core.specs.Outcome.{status_at, outcome_of_fetch, outcome_of_put, EndsAt};

@@ -1,4 +1,4 @@
-// From the words to the status.
+// From the words to the status: the way of a run, from its first line to its last, and the clauses that say what it means.
 ghost use Rattle.std.specs.Prelude.{◌≡◌, ◌≢◌, ◌↔◌, ◌<◌, ◌≤◌, List, ℕ, length, IfOk, IfErr, OnOk, Some, None};
 ghost use Rattle.std.specs.IoError.{error_kind};
 ghost use Rattle.harm_io.specs.Causes.{Rose};

@@ -1,4 +1,4 @@
-// The scans of a study with their walks.
+// The scans of a study with their walks. All are made before the first put, so a walk can't meet want of memory.
 use band_subdivision::Scan;
 use complex_interval::Enclosure;
 use sequence_network::Networks;

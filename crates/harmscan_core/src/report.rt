@@ -1,4 +1,4 @@
-// The writing of a report, a line a put.
+// The writing of a report, a line a put, through one buffer: after the first put harmscan takes no memory of its own.
 ghost use Rattle.std.specs.Prelude.{◌≡◌, ◌<◌, length, IfOk, IfSome};
 ghost use Rattle.std.specs.List.{AllByRecursion};
 ghost use Rattle.band_subdivision.specs.BoxText.{HasText};

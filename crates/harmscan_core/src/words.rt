@@ -1,4 +1,4 @@
-// What the words of the command line ask for.
+// What the words of the command line ask for. They are read by hand, since a reading takes no memory.
 ghost use Rattle.std.specs.Prelude.{◌≡◌, option_map};
 ghost use Rattle.harm_io.specs.Memory.{names_of};
 ghost use Rattle.harmscan_core.specs.Words.{is_file_word, reading};

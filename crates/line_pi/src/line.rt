@@ -1,4 +1,4 @@
-// Lines.
+// Lines. A line is added whole or not at all, so a refused one leaves no inner node behind.
 ghost use Rattle.std.specs.Prelude.{◌≡◌, ◌≢◌, ◌≤◌, ◌-◌, length, map, IsTrue, IsFalse, IfOk, IfErr, OnOk, OnErr};
 ghost use Rattle.std.specs.List.{AllByRecursion};
 ghost use Rattle.network_theory.specs.Network.{IsUncoupled};

@@ -1,4 +1,4 @@
-// The sections of a line, one after another.
+// The sections of a line, one after another: each section's shunts stand at both its ends, so two sections share the node between.
 ghost use Rattle.std.specs.Prelude.{◌≡◌, ◌-◌, ◌≤◌, ◌++◌, map, IfOk, OnOk};
 ghost use Rattle.net_branch.specs.Exact.{exact_law, exact_branch};
 ghost use Rattle.net_branch.specs.declared.limits.TheConstants.{MAX_NODES};

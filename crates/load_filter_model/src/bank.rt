@@ -1,4 +1,4 @@
-// Capacitor banks.
+// Capacitor banks. A bank is a susceptance and no reactance over the order, so it has an admittance at every order.
 ghost use Rattle.std.specs.Prelude.{◌≡◌, ◌≢◌, ◌≤ℤ◌, pos, [], ◌∷◌, length, map, IsTrue, IsFalse, IfOk, IfErr, OnOk, OnErr, if◌then◌else◌};
 ghost use Rattle.std.specs.List.{AllByRecursion};
 ghost use Rattle.network_theory.specs.Branch.{Shunt};

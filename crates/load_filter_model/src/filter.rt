@@ -1,4 +1,4 @@
-// Filters.
+// Filters. The rating is the capacitor's, from which the order and the quality give the other values.
 ghost use Rattle.std.specs.Prelude.{◌≡◌, ◌≢◌, ℕ, ℤ, ◌≤ℤ◌, pos, [], ◌∷◌, length, map, IsTrue, IsFalse, IfOk, IfErr, OnOk, OnErr};
 ghost use Rattle.std.specs.List.{AllByRecursion};
 ghost use Rattle.exact_fraction.specs.Fraction.{ratio_of};

@@ -1,4 +1,4 @@
-// Loads.
+// Loads. Three models, since what a load is at harmonic orders is the planner's choice and no measurement.
 ghost use Rattle.std.specs.Prelude.{◌≡◌, ◌≢◌, ◌<◌, ◌≤ℤ◌, ◌*ℤ◌, ◌-ℤ◌, pos, [], ◌∷◌, ◌++◌, length, map, Some, IsTrue, IsFalse, IfOk, IfErr, OnOk, OnErr, if◌then◌else◌};
 ghost use Rattle.std.specs.List.{AllByRecursion};
 ghost use Rattle.exact_fraction.specs.Fraction.{ratio_of};

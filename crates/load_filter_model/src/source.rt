@@ -1,4 +1,4 @@
-// Sources.
+// Sources. A source has no voltage of its own at harmonic orders, so it is its impedance to ground and nothing else.
 ghost use Rattle.std.specs.Prelude.{◌≡◌, ◌≢◌, ◌<◌, ◌≤ℤ◌, pos, length, map, IsTrue, IsFalse, IfOk, IfErr, OnOk, OnErr};
 ghost use Rattle.std.specs.List.{AllByRecursion};
 ghost use Rattle.exact_fraction.specs.Fraction.{ratio_of};

@@ -1,4 +1,4 @@
-// Networks built node by node and branch by branch.
+// Networks built node by node and branch by branch. A refusal leaves the network as it was.
 ghost use Rattle.std.specs.Prelude.{◌≡◌, ◌+◌, ◌≤◌, ◌<◌, ◌↔◌, [], ◌∷◌, ◌++◌, map, IsOk, IfOk, IfErr, IsOkAnd, OnOk, OnErr, IsOkUnless, MatchOption};
 ghost use Rattle.network_theory.specs.Network.{IsGrouped};
 ghost use Rattle.net_branch.specs.Exact.{exact_branch};

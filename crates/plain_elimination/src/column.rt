@@ -1,4 +1,4 @@
-// A column of complex intervals.
+// A column of complex intervals: the right side of a system, in whose place the solution is left.
 ghost use Rattle.std.specs.Prelude.{◌≡◌, ◌<◌, ◌≤◌, Some, IfOk, length, replicate, slice_get, slice_set};
 ghost use Rattle.complex_interval.specs.Rect.{box_of};
 ghost use Rattle.plain_elimination.specs.Matrix.{nought_box};

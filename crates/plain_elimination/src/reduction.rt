@@ -1,4 +1,4 @@
-// Reduction in place.
+// Reduction in place, so that one matrix serves for every box of a scan.
 ghost use Rattle.std.specs.Prelude.{◌≡◌, ◌+◌, ◌-◌, ◌*◌, ◌<◌, ◌≤◌, Ok, IfOk, length, map, drop};
 ghost use Rattle.complex_interval.specs.Rect.{box_of};
 ghost use Rattle.plain_elimination.specs.declared.failure.Failure.TheVariants.{OutOfRange};

@@ -1,4 +1,4 @@
-// Solving in place.
+// Solving in place: the steps of the reduction with the right side beside them, and then the way back.
 ghost use Rattle.std.specs.Prelude.{◌≡◌, ◌+◌, ◌-◌, ◌*◌, ◌<◌, ◌≤◌, ℕ, Ok, OnOk, [], ◌∷◌, suc, length, map, take, drop};
 ghost use Rattle.std.specs.Option.{option_map};
 ghost use Rattle.complex_interval.specs.Rect.{box_of};

@@ -1,4 +1,4 @@
-// Reports read back.
+// Reports read back: a text is read as a row, whatever stands in it, and is that row where it is the row's own text.
 ghost use Rattle.std.specs.Prelude.{◌≡◌, ◌≢◌, ◌<◌, ◌^◌, ◌↔◌, IsTrue, IfOk, IfErr, IfSome, IfNone, ℕ, List, [], ◌++◌, length, MatchOption};
 ghost use Rattle.scan_report.specs.Rows.{row_text};
 ghost use Rattle.scan_report.specs.Reading.{ended, MayStand, IsRow, IsReport, BadLine, NoReportIsBad, stage_after};

@@ -1,4 +1,4 @@
-// The network of a study.
+// The network of a study: a node for each bus, then the elements in the order of their numbers.
 ghost use Rattle.std.specs.Prelude.{◌≡◌, ◌≢◌, IsTrue, IsFalse, IfOk, IfErr, OnOk};
 ghost use Rattle.std.specs.List.{AllByRecursion};
 ghost use Rattle.network_theory.specs.Network.{IsUncoupled};

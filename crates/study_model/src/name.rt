@@ -1,4 +1,4 @@
-// Names, of 1 to 32 bytes.
+// Names, of 1 to 32 bytes that need no quotes in a line of a report.
 ghost use Rattle.std.specs.Prelude.{◌≡◌, ◌-◌, ◌≤◌, ◌++◌, length, replicate};
 ghost use Rattle.std.specs.List.{list_all};
 ghost use Rattle.study_model.specs.NameText.{name_of, is_name, is_name_byte};

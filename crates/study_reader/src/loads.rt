@@ -1,4 +1,4 @@
-// The entry of a load.
+// The entry of a load. Which keys belong to it depends on its model, so the model is read first.
 ghost use Rattle.std.specs.Prelude.{◌≡◌, ◌≤◌, is_some, length, IfOk, IfSome};
 ghost use Rattle.toml.specs.View.{view};
 ghost use Rattle.study_model.specs.Range.{IsIn};

@@ -1,4 +1,4 @@
-// The entry of a point of common coupling.
+// The entry of a point of common coupling: the only one that names an element, so it stands last.
 ghost use Rattle.std.specs.Prelude.{◌≡◌, ◌≤◌, length, IfOk, IfSome};
 ghost use Rattle.toml.specs.View.{view};
 ghost use Rattle.study_reader.specs.Checks.{Reads};

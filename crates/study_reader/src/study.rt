@@ -1,4 +1,4 @@
-// A whole study.
+// A whole study: its sections in the order of the format, so that the first fault is the one that is named.
 ghost use Rattle.std.specs.Prelude.{◌≡◌, ◌≢◌, ◌+◌, ◌*◌, ◌≤◌, ◌∷◌, [], ◌++◌, None, false, length, map, All, AllPairs, IfOk, IfErr, OnOk};
 ghost use Rattle.toml.specs.Data.{table as table_data};
 ghost use Rattle.toml.specs.Errors.{IsMemory};

@@ -1,4 +1,4 @@
-// The neutrals of grounded sides.
+// The neutrals of grounded sides. Three equal currents meet there, so a neutral's impedance counts three times.
 ghost use Rattle.std.specs.Prelude.{◌≡◌, ◌<◌, ◌≤◌, ◌≤ℤ◌, ◌*ℤ◌, ◌||◌, ◌++◌, int_lt, pos, length, map, IfOk, OnOk};
 ghost use Rattle.exact_algebra.specs.Ratio.{whole};
 ghost use Rattle.network_theory.specs.Branch.{Series};

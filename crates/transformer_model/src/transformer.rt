@@ -1,4 +1,4 @@
-// Transformers.
+// Transformers. The positive network has the leakage alone; which way zero sequence takes, both windings decide (zero.rt).
 ghost use Rattle.std.specs.Prelude.{◌≡◌, ◌≢◌, ◌≤◌, ◌≤ℤ◌, pos, [], ◌∷◌, length, IsTrue, IsFalse, IfOk, IfErr, OnOk, OnErr};
 ghost use Rattle.std.specs.List.{AllByRecursion};
 ghost use Rattle.network_theory.specs.Network.{IsUncoupled};

@@ -1,4 +1,4 @@
-// Transformers in the zero network.
+// Transformers in the zero network. Zero sequence passes between two grounded stars, goes to ground behind a delta, and else not at all.
 ghost use Rattle.std.specs.Prelude.{◌≡◌, ◌<◌, ◌≤◌, ◌≤ℤ◌, pos, length, IfOk};
 ghost use Rattle.exact_algebra.specs.Ratio.{whole};
 ghost use Rattle.exact_fraction.specs.Fraction.{ratio_of};
