@@ -2,8 +2,6 @@
 #![tactic(auto)]
 
 mod assembly;
-#[cfg(test)]
-mod assembly_tests;
 mod branches;
 mod copies;
 mod exact;
@@ -16,8 +14,6 @@ mod series;
 mod shunt;
 mod skin;
 mod taps;
-#[cfg(test)]
-mod tests;
 
 pub use assembly::Assembly;
 pub use exact::{exact_one, exact_zero};

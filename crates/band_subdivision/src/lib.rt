@@ -42,6 +42,3 @@ pub fn boxes_have_text()
 pub fn worked_bounds()
     ensures law { WorkedBounds }
 {}
-
-#[cfg(test)]
-mod tests;

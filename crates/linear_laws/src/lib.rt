@@ -34,6 +34,3 @@ pub fn injective_is_solvable(rows: &Rows)
     ensures of_complex { InjectiveIsSolvable complex_numbers }
     ensures as_real { ComplexAsReal }
 {}
-
-#[cfg(test)]
-mod tests;

@@ -7,8 +7,6 @@ mod fault;
 mod limits;
 mod live_nodes;
 mod network;
-#[cfg(test)]
-mod tests;
 
 pub use build::{add_node, new_network, next_keeps_grouping, push_branch};
 pub use element::append_element;

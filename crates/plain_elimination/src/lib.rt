@@ -18,6 +18,3 @@ pub use laws::{reduction_holds, solution_holds, worked_reductions};
 pub use matrix::Matrix;
 pub use reduction::reduce_to_last;
 pub use solution::solve;
-
-#[cfg(test)]
-mod tests;

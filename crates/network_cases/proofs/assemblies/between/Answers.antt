@@ -1,6 +1,6 @@
 use Rattle.std.proofs.Common.{refl}
-use Rattle.admittance_box.proofs.Groups.{pair_of_coils}
-use Rattle.admittance_box.proofs.assembly_tests.between.Goals as goal
+use Rattle.network_cases.proofs.Pairs.{pair_of_coils}
+use Rattle.network_cases.proofs.assemblies.between.Goals as goal
 
 pub between-requires-clause-pair : goal.between-requires-clause-pair
 between-requires-clause-pair g c =

@@ -1,20 +1,22 @@
-use Rattle.std.proofs.Common.{◌≢◌, ap, subst, sym, ◌∙◌, arith}
+use Rattle.std.proofs.Common.{◌≢◌, refl, ap, subst, sym, ◌∙◌, arith}
 use Rattle.std.specs.List.{AllByRecursion}
 use Rattle.network_theory.proofs.Couplings.{coupling_same}
 use Rattle.net_branch.specs.Exact.{exact_law}
-use Rattle.net_branch.proofs.tests.with_group.Goals as goal
+use Rattle.network_cases.proofs.Equal.{same_throughout}
+use Rattle.network_cases.proofs.building.with_group.Goals as goal
 
 pub push_group-requires-clause-three : goal.push_group-requires-clause-three
 push_group-requires-clause-three c =
     let a = c.in_ok-a.ensures in
     let b = c.in_ok-b.ensures in
     let last = c.in_ok-c.ensures in
+    let equal = c.if-is_equal.ensures refl in
     record {
       first = record { values = _; law = ap exact_law a.law };
       second = record { values = _; law = ap exact_law b.law };
       third = record { values = _; law = ap exact_law last.law };
       equal_second = coupling_same _;
-      equal_third = coupling_same _;
+      equal_third = same_throughout _ _ equal.0 equal.1;
       number = λ e. omega (arith, e, a.group);
       same_second = b.group ∙ sym a.group;
       same_third = last.group ∙ sym a.group;

@@ -1,6 +1,6 @@
 use Rattle.std.proofs.Common.{◌+◌, max, arith}
 use Rattle.net_branch.proofs.Wholes.{uncoupled_element, at_more_nodes}
-use Rattle.net_branch.proofs.tests.add_tie.Goals as goal
+use Rattle.network_cases.proofs.building.add_tie.Goals as goal
 
 pub append_element-requires-clause-element : goal.append_element-requires-clause-element
 append_element-requires-clause-element c =

@@ -1,109 +1,27 @@
-// Scans of small networks that were worked by hand, at 10 kV and 100 MVA, where 1 per unit is 1 ohm.
+// Scans of small networks at 10 kV and 100 MVA, where 1 per unit is 1 ohm.
 ghost use Rattle.std.specs.Prelude.{◌≡◌, false, IfOk};
-ghost use Rattle.network_theory.specs.Live.{Live};
-ghost use Rattle.network_theory.specs.Network.{IsUncoupled};
-ghost use Rattle.net_branch.specs.Exact.{exact_branch, exact_network};
+ghost use Rattle.net_branch.specs.Exact.{exact_network};
 ghost use Rattle.net_branch.specs.Whole.{IsWholeNetwork};
 ghost use Rattle.admittance_box.specs.HeldMatrix.{HasNoGroup};
 ghost use Rattle.band_subdivision.specs.ScanSpec.{IsScanSpec};
 
-use crate::interval_test::{is_clear_of, ohms_of};
-use crate::{Scan, ScanSpec, Tested};
-use complex_interval::{Enclosure, Rect, Span};
+use crate::fixtures::{FOUR_HUNDREDTHS, TENTH, ZERO, coil, live_node, network_of, two_buses};
+use band_subdivision::{Scan, ScanSpec, Tested};
+use complex_interval::{Enclosure, Span};
 use exact_fraction::Fraction;
 use fixed_decimal::Decimal;
-use net_branch::{Branch, Law, Network, NodeId, Tap, live, new_network, push_branch};
+use net_branch::Network;
 use scan_report::{BoxRow, Kind};
-use sqlite_items::Items;
 use std::alloc::Global;
 use std::process::Abort;
 use std::test::Fail;
-
-const ZERO: Fraction = Fraction { num: 0, den: 1 };
-
-const ONE: Fraction = Fraction { num: 1, den: 1 };
-
-const MINUS_ONE: Fraction = Fraction { num: -1, den: 1 };
-
-const TENTH: Fraction = Fraction { num: 1, den: 10 };
-
-const FOUR_HUNDREDTHS: Fraction = Fraction { num: 4, den: 100 };
-
-// A tap at a node.
-fn tap(number: u32, ratio: Fraction) -> Tap {
-    Tap {
-        node: NodeId { number },
-        ratio,
-    }
-}
-
-// A series branch of the reactance 1.
-fn coil(alloc: Global, taps: &[Tap], r: Fraction) -> Result<Branch, Fail>
-    ensures { IfOk result (λ branch. IsUncoupled (exact_branch branch)) }
-{
-    Ok(Branch {
-        taps: Items::from_slice(alloc, taps)?,
-        law: Law::Series {
-            r,
-            k: ZERO,
-            m: ONE,
-            x: ONE,
-            xc: ZERO,
-        },
-        group: 0,
-        owner: 1,
-    })
-}
-
-// A shunt of the susceptance b.
-fn bank(alloc: Global, taps: &[Tap], b: Fraction) -> Result<Branch, Fail>
-    ensures { IfOk result (λ branch. IsUncoupled (exact_branch branch)) }
-{
-    Ok(Branch {
-        taps: Items::from_slice(alloc, taps)?,
-        law: Law::Shunt { b },
-        group: 0,
-        owner: 2,
-    })
-}
-
-// Adds a branch, or keeps the network.
-#[tactic(auto, using(net_branch::proofs::Wholes::uncoupled_next, net_branch::proofs::Wholes::uncoupled_grouped, net_branch::proofs::Wholes::whole_growing, admittance_box::proofs::Groups::none_more))]
-fn push(alloc: Global, network: &mut Network, branch: Branch) -> Result<(), Fail>
-    requires whole { IsWholeNetwork network.old }
-    requires no_group { HasNoGroup (exact_network network.old) }
-    requires uncoupled { IsUncoupled (exact_branch branch) }
-    ensures whole { IsWholeNetwork network.new }
-    ensures no_group { HasNoGroup (exact_network network.new) }
-{
-    match push_branch(alloc, network, branch) {
-        Ok(()) => Ok(()),
-        Err(_) => Err("refused".into()),
-    }
-}
 
 // A bus behind a coil of this resistance.
 fn one_bus(alloc: Global, r: Fraction) -> Result<Network, Fail>
     ensures whole { IfOk result IsWholeNetwork }
     ensures no_group { IfOk result (λ network. HasNoGroup (exact_network network)) }
 {
-    let mut network = new_network(alloc, 1)?;
-    push(alloc, &mut network, coil(alloc, &[tap(0, ONE)], r)?)?;
-    Ok(network)
-}
-
-// A coil from node 1 to ground, one between both nodes, and a bank at node 0.
-fn two_buses(alloc: Global) -> Result<Network, Fail>
-    ensures whole { IfOk result IsWholeNetwork }
-    ensures no_group { IfOk result (λ network. HasNoGroup (exact_network network)) }
-{
-    let mut network = new_network(alloc, 2)?;
-    push(alloc, &mut network, coil(alloc, &[tap(1, ONE)], ZERO)?)?;
-    let taps = [tap(0, ONE), tap(1, MINUS_ONE)];
-    push(alloc, &mut network, coil(alloc, &taps, ZERO)?)?;
-    let branch = bank(alloc, &[tap(0, ONE)], FOUR_HUNDREDTHS)?;
-    push(alloc, &mut network, branch)?;
-    Ok(network)
+    network_of(alloc, 1, &[coil(0, r)])
 }
 
 // A band in micro-orders, with its finest and locating widths, and a threshold in micro-ohms.
@@ -136,19 +54,6 @@ fn spec_of(band: [u32; 2], finest: u32, locate: u32, threshold: i64) -> Result<S
         },
         both: false,
     })
-}
-
-// The node of this number, which must be live.
-fn live_node(alloc: Global, network: &Network, number: u32) -> Result<NodeId, Fail>
-    requires { IsWholeNetwork network.now }
-    ensures { IfOk result (λ node. Live (exact_network network.now) node.number) }
-{
-    let marks = live(alloc, network)?;
-    if number < network.nodes && marks[number as usize] {
-        Ok(NodeId { number })
-    } else {
-        Err("dead".into())
-    }
 }
 
 // The scan of a network at a live node.
@@ -296,26 +201,37 @@ fn a_resonance_at_another_bus_leaves_a_box_undecided(rt: HostRuntime) -> Result<
     Ok(())
 }
 
-// An admittance with this imaginary part, in units of 1 / 2^40.
-fn susceptance(low: i64, high: i64) -> Result<Rect<Span<40>>, Fail> {
-    let re = Span::from_ends(0, 0).ok_or("no part")?;
-    let im = Span::from_ends(low, high).ok_or("no part")?;
-    Ok(Rect { re, im })
+// What a scan of this threshold says of the order 4, where a coil has 4 ohms, with a further susceptance.
+fn assert_at_four(
+    rt: &impl Abort,
+    alloc: Global,
+    threshold: i64,
+    extra: Fraction,
+    wanted: Tested,
+    label: &str,
+) -> Result<(), Fail> {
+    assert!(rt; 0 <= extra.num);
+    let network = one_bus(alloc, ZERO)?;
+    let spec = spec_of([3_000_000, 5_000_000], 1_000, 1_000, threshold)?;
+    let mut scan: Scan<Span<40>> = scan_of(alloc, &network, 0, &spec)?;
+    scan.restart(extra);
+    let found = tested(&mut scan, &spec, 4_000_000, 4_000_000)?;
+    assert_eq!(rt; found, wanted, "{label}");
+    Ok(())
 }
 
-// Half an ohm has the bound 2·2^40.
+// A bank of 1/16 leaves nothing of the coil's admittance, so no impedance exists.
 #[test]
-fn an_admittance_at_the_threshold_and_about_zero(rt: HostRuntime) -> Result<(), Fail> {
-    let levels = spec_of([3_000_000, 4_000_000], 1_000, 1_000, 500_000)?.levels();
-    let bound = Some(2_199_023_255_552);
-    let at = Some(susceptance(2_199_023_255_552, 2_199_023_255_552)?);
-    assert!(rt; is_clear_of(bound, at));
-    assert_eq!(rt; ohms_of(&levels, bound, at), None);
-    let below = Some(susceptance(2_199_023_255_551, 2_199_023_255_551)?);
-    assert!(rt; !is_clear_of(bound, below));
-    assert_eq!(rt; ohms_of(&levels, bound, below), Some(500_000));
-    let zero = Some(susceptance(-1, 1)?);
-    assert!(rt; !is_clear_of(bound, zero));
-    assert_eq!(rt; ohms_of(&levels, bound, zero), None);
+fn at_the_threshold_and_where_no_impedance_exists(rt: HostRuntime) -> Result<(), Fail> {
+    let sixteenth = Fraction { num: 1, den: 16 };
+    for (label, threshold, extra, clear, micro_ohms) in [
+        ("at the threshold", 4_000_000, ZERO, true, None),
+        ("above it", 3_999_999, ZERO, false, Some(4_000_000)),
+        ("below it", 4_000_001, ZERO, true, None),
+        ("no impedance", 4_000_000, sixteenth, false, None),
+    ] {
+        let wanted = Tested { clear, micro_ohms };
+        assert_at_four(&rt, rt.alloc(), threshold, extra, wanted, label)?;
+    }
     Ok(())
 }

@@ -1,7 +1,8 @@
 // Each law is called once, at rows that meet its premises, beside the arithmetic of its conclusion.
-use super::*;
 use exact_fraction::Fraction;
+use linear_laws::{Rows, elimination_step, front_of_zero_rows, injective_is_solvable};
 use std::alloc::Global;
+use std::process::Abort;
 use std::test::Fail;
 
 fn row_of(alloc: Global, entries: [i128; 2]) -> Result<Vec<Fraction>, Fail> {
@@ -28,12 +29,22 @@ fn values_at(rows: [[i128; 2]; 2], x: [i128; 2]) -> [i128; 2] {
     [dot(rows[0], x), dot(rows[1], x)]
 }
 
+fn assert_values(
+    rt: &impl Abort,
+    rows: [[i128; 2]; 2],
+    x: [i128; 2],
+    wanted: [i128; 2],
+    label: &str,
+) {
+    assert_eq!(rt; values_at(rows, x), wanted, "{label}");
+}
+
 #[test]
 fn rows_that_begin_with_zero(rt: HostRuntime) -> Result<(), Fail> {
     let entries = [[0, 1], [0, 2]];
     front_of_zero_rows(&rows_of(rt.alloc(), entries)?);
-    assert_eq!(rt; values_at(entries, [1, 0]), [0, 0]);
-    assert_eq!(rt; values_at(entries, [0, 1]), [1, 2]);
+    assert_values(&rt, entries, [1, 0], [0, 0], "a zero");
+    assert_values(&rt, entries, [0, 1], [1, 2], "no zero");
     Ok(())
 }
 
@@ -42,8 +53,14 @@ fn rows_that_begin_with_zero(rt: HostRuntime) -> Result<(), Fail> {
 fn one_step(rt: HostRuntime) -> Result<(), Fail> {
     let entries = [[2, 1], [1, 2]];
     elimination_step(&rows_of(rt.alloc(), entries)?);
-    assert_eq!(rt; values_at([[2, 1], [0, 3]], [1, 2]), [4, 2 * 5 - 4]);
-    assert_eq!(rt; values_at(entries, [1, 2]), [4, 5]);
+    assert_values(
+        &rt,
+        [[2, 1], [0, 3]],
+        [1, 2],
+        [4, 2 * 5 - 4],
+        "after the step",
+    );
+    assert_values(&rt, entries, [1, 2], [4, 5], "before it");
     Ok(())
 }
 
@@ -52,7 +69,7 @@ fn one_step(rt: HostRuntime) -> Result<(), Fail> {
 fn one_solution(rt: HostRuntime) -> Result<(), Fail> {
     let entries = [[2, 1], [1, 2]];
     injective_is_solvable(&rows_of(rt.alloc(), entries)?);
-    assert_eq!(rt; values_at(entries, [1, 2]), [4, 5]);
-    assert_eq!(rt; values_at([[1, 2], [2, 4]], [2, -1]), [0, 0]);
+    assert_values(&rt, entries, [1, 2], [4, 5], "the solution");
+    assert_values(&rt, [[1, 2], [2, 4]], [2, -1], [0, 0], "a further zero");
     Ok(())
 }

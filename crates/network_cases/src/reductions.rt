@@ -1,9 +1,10 @@
 // Reduction and solving of systems that were worked by hand, at scale 40.
 ghost use Rattle.std.specs.Prelude.{◌≡◌, IfOk, length};
 
-use crate::{Column, Failure, Matrix, reduce_to_last, solve};
 use complex_interval::{Enclosure, Rect, Span};
+use plain_elimination::{Column, Failure, Matrix, reduce_to_last, solve};
 use std::alloc::Global;
+use std::process::Abort;
 use std::test::Fail;
 
 const UNIT: i64 = 1_099_511_627_776;
@@ -65,6 +66,20 @@ fn steps(failure: Failure) -> (Option<u32>, Option<u32>) {
     }
 }
 
+fn assert_real(rt: &impl Abort, found: Rect<Span<40>>, raw: i64, label: &str) {
+    assert_eq!(rt; raw_ends(found), Some([raw, raw]), "{label}");
+}
+
+fn assert_failure<T: Drop>(
+    rt: &impl Abort,
+    found: Result<T, Failure>,
+    wanted: Failure,
+    label: &str,
+) {
+    let steps_of = found.map_err(steps).err();
+    assert_eq!(rt; steps_of, Some(steps(wanted)), "{label}");
+}
+
 fn reduced(alloc: Global, raw: [[i64; 2]; 2]) -> Result<Result<Rect<Span<40>>, Failure>, Fail> {
     let mut matrix = matrix_of_two(alloc, raw)?;
     Ok(reduce_to_last(&mut matrix))
@@ -74,35 +89,37 @@ fn reduced(alloc: Global, raw: [[i64; 2]; 2]) -> Result<Result<Rect<Span<40>>, F
 fn one_entry_is_its_own_value(rt: HostRuntime) -> Result<(), Fail> {
     let mut matrix = matrix_of_one(rt.alloc(), 2 * UNIT)?;
     let value = reduce_to_last(&mut matrix).map_err(|_| "failed")?;
-    assert_eq!(rt; raw_ends(value), Some([2 * UNIT, 2 * UNIT]));
+    assert_real(&rt, value, 2 * UNIT, "one entry");
     Ok(())
 }
 
-// 2 - 1/2
+// 2 - 1/2; and the row (0, 1) stays, whatever stands over its last entry.
 #[test]
 fn two_rows(rt: HostRuntime) -> Result<(), Fail> {
-    let value = reduced(rt.alloc(), [[2 * UNIT, UNIT], [UNIT, 2 * UNIT]])?.map_err(|_| "failed")?;
-    assert_eq!(rt;
-        raw_ends(value),
-        Some([1_649_267_441_664, 1_649_267_441_664])
-    );
-    Ok(())
-}
-
-// The row (0, 1) stays, whatever stands over its last entry.
-#[test]
-fn a_row_that_begins_with_zero_stays(rt: HostRuntime) -> Result<(), Fail> {
-    let value = reduced(rt.alloc(), [[2 * UNIT, GREATEST], [0, UNIT]])?.map_err(|_| "failed")?;
-    assert_eq!(rt; raw_ends(value), Some([UNIT, UNIT]));
+    for (label, rows, raw) in [
+        (
+            "two rows",
+            [[2 * UNIT, UNIT], [UNIT, 2 * UNIT]],
+            1_649_267_441_664,
+        ),
+        (
+            "a row that begins with zero",
+            [[2 * UNIT, GREATEST], [0, UNIT]],
+            UNIT,
+        ),
+    ] {
+        let value = reduced(rt.alloc(), rows)?.map_err(|_| "failed")?;
+        assert_real(&rt, value, raw, label);
+    }
     Ok(())
 }
 
 #[test]
 fn reductions_that_fail(rt: HostRuntime) -> Result<(), Fail> {
     let pivot = reduced(rt.alloc(), [[0, UNIT], [UNIT, UNIT]])?;
+    assert_failure(&rt, pivot, Failure::PivotHoldsZero(1), "the pivot");
     let too_great = reduced(rt.alloc(), [[UNIT, GREATEST], [2 * UNIT, UNIT]])?;
-    assert_eq!(rt; pivot.map_err(steps).err(), Some((Some(1), None)));
-    assert_eq!(rt; too_great.map_err(steps).err(), Some((None, Some(1))));
+    assert_failure(&rt, too_great, Failure::OutOfRange(1), "the second row");
     Ok(())
 }
 
@@ -113,10 +130,7 @@ fn one_unknown(rt: HostRuntime) -> Result<(), Fail> {
     let mut right = Column::new(rt.alloc(), 1)?;
     right.set(0, real(UNIT)?);
     solve(&mut matrix, &mut right).map_err(|_| "failed")?;
-    assert_eq!(rt;
-        raw_ends(right.get(0)),
-        Some([549_755_813_888, 549_755_813_888])
-    );
+    assert_real(&rt, right.get(0), 549_755_813_888, "x");
     Ok(())
 }
 
@@ -126,25 +140,29 @@ fn two_unknowns(rt: HostRuntime) -> Result<(), Fail> {
     let mut matrix = matrix_of_two(rt.alloc(), [[2 * UNIT, UNIT], [UNIT, 2 * UNIT]])?;
     let mut right = column_of_two(rt.alloc(), [2 * UNIT, 2_748_779_069_440])?;
     solve(&mut matrix, &mut right).map_err(|_| "failed")?;
-    assert_eq!(rt;
-        raw_ends(right.get(0)),
-        Some([549_755_813_888, 549_755_813_888])
-    );
-    assert_eq!(rt; raw_ends(right.get(1)), Some([UNIT, UNIT]));
+    assert_real(&rt, right.get(0), 549_755_813_888, "x");
+    assert_real(&rt, right.get(1), UNIT, "y");
     Ok(())
+}
+
+// How solving two equations ends.
+fn solved(
+    alloc: Global,
+    rows: [[i64; 2]; 2],
+    right: [i64; 2],
+) -> Result<Result<(), Failure>, Fail> {
+    let mut matrix = matrix_of_two(alloc, rows)?;
+    let mut column = column_of_two(alloc, right)?;
+    Ok(solve(&mut matrix, &mut column))
 }
 
 // The last pivot is 1 - 1; y = 2^22 in x + 2y = 0 leaves the range at row 1.
 #[test]
 fn solutions_that_fail(rt: HostRuntime) -> Result<(), Fail> {
-    let mut singular = matrix_of_two(rt.alloc(), [[UNIT, UNIT], [UNIT, UNIT]])?;
-    let mut ones = column_of_two(rt.alloc(), [UNIT, UNIT])?;
-    let last_pivot = solve(&mut singular, &mut ones);
-    assert_eq!(rt; last_pivot.map_err(steps).err(), Some((Some(2), None)));
-    let mut upper = matrix_of_two(rt.alloc(), [[UNIT, 2 * UNIT], [0, UNIT]])?;
-    let mut great = column_of_two(rt.alloc(), [0, GREATEST])?;
-    let way_back = solve(&mut upper, &mut great);
-    assert_eq!(rt; way_back.map_err(steps).err(), Some((None, Some(1))));
+    let singular = solved(rt.alloc(), [[UNIT, UNIT], [UNIT, UNIT]], [UNIT, UNIT])?;
+    assert_failure(&rt, singular, Failure::PivotHoldsZero(2), "the last pivot");
+    let way_back = solved(rt.alloc(), [[UNIT, 2 * UNIT], [0, UNIT]], [0, GREATEST])?;
+    assert_failure(&rt, way_back, Failure::OutOfRange(1), "the way back");
     Ok(())
 }
 
@@ -152,8 +170,8 @@ fn solutions_that_fail(rt: HostRuntime) -> Result<(), Fail> {
 fn entries(rt: HostRuntime) -> Result<(), Fail> {
     let mut matrix: Matrix<Span<40>> = Matrix::new(rt.alloc(), 3)?;
     matrix.set(2, 1, real(UNIT)?);
+    assert_real(&rt, matrix.get(2, 1), UNIT, "the entry that was set");
+    assert_real(&rt, matrix.get(1, 2), 0, "another entry");
     assert_eq!(rt; matrix.size(), 3);
-    assert_eq!(rt; raw_ends(matrix.get(2, 1)), Some([UNIT, UNIT]));
-    assert_eq!(rt; raw_ends(matrix.get(1, 2)), Some([0, 0]));
     Ok(())
 }

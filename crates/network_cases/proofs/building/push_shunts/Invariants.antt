@@ -1,5 +1,5 @@
 use Rattle.net_branch.specs.Whole.{IsWholeNetwork}
-use Rattle.net_branch.proofs.tests.push_shunts.Given as goal
+use Rattle.network_cases.proofs.building.push_shunts.Given as goal
 
 abbrev pub invariant-loop-i : goal.invariant-loop-i
 invariant-loop-i l = IsWholeNetwork l.network

@@ -1,9 +1,10 @@
 // Branches whose admittances were worked by hand.
-use crate::{
+use admittance_box::{
     SeriesParameters, SeriesValues, order_range, resistance, series_admittance, shunt_admittance,
 };
 use complex_interval::{Enclosure, Rect, Span};
 use exact_fraction::Fraction;
+use std::process::Abort;
 use std::test::Fail;
 
 const UNIT_40: i64 = 1_099_511_627_776;
@@ -56,17 +57,24 @@ fn admittance<E: Enclosure>(values: SeriesValues, order: E) -> Option<Rect<E>> {
     series_admittance(&between(values, values)?, order)
 }
 
+// The raw ends of an interval.
+fn assert_ends<E: Enclosure>(rt: &impl Abort, found: E, low: i64, high: i64) {
+    assert_eq!(rt; (found.low(), found.high()), (low, high));
+}
+
+// An interval about the numbers from low to high that is no wider than so many raw units.
+fn assert_about<E: Enclosure>(rt: &impl Abort, found: E, low: i64, high: i64, width: u64) {
+    assert!(rt; found.low() <= low && high <= found.high() && found.width() < width);
+}
+
 #[test]
 fn inductance_at_three_and_a_quarter(rt: HostRuntime) -> Result<(), Fail> {
     let order: Span<40> = order_range(3_250_000, 3_250_000);
-    assert_eq!(rt; order.low(), 3_573_412_790_272);
-    assert_eq!(rt; order.high(), 3_573_412_790_272);
+    assert_ends(&rt, order, 3_573_412_790_272, 3_573_412_790_272);
     let coil = plain(ratio(0, 1)?, ratio(1, 1)?, ratio(0, 1)?)?;
     let y = admittance(coil, order).ok_or("no value")?;
-    assert_eq!(rt; y.re.low(), 0);
-    assert_eq!(rt; y.re.high(), 0);
-    assert_eq!(rt; y.im.low(), -338_311_270_085);
-    assert_eq!(rt; y.im.high(), -338_311_270_084);
+    assert_ends(&rt, y.re, 0, 0);
+    assert_ends(&rt, y.im, -338_311_270_085, -338_311_270_084);
     Ok(())
 }
 
@@ -86,11 +94,9 @@ fn resistance_with_skin_effect(rt: HostRuntime) -> Result<(), Fail> {
     let values = with_skin()?;
     let p = between(values, values).ok_or("no parameters")?;
     let r = resistance(p.r, p.k, p.m, p.plain, order).ok_or("no resistance")?;
-    assert!(rt; r.low() <= 228_636_691_608_831 && 228_636_691_608_832 <= r.high());
-    assert!(rt; r.width() < 8);
+    assert_about(&rt, r, 228_636_691_608_831, 228_636_691_608_832, 8);
     let y = admittance(values, order).ok_or("no value")?;
-    assert!(rt; y.re.low() <= 346_524_269_384_608 && 346_524_269_384_609 <= y.re.high());
-    assert!(rt; y.re.width() < 16);
+    assert_about(&rt, y.re, 346_524_269_384_608, 346_524_269_384_609, 16);
     Ok(())
 }
 
@@ -121,8 +127,7 @@ fn values_between_two(rt: HostRuntime) -> Result<(), Fail> {
     high.r = ratio(2, 3)?;
     let p: SeriesParameters<Span<40>> = between(low, high).ok_or("no parameters")?;
     assert!(rt; p.plain);
-    assert_eq!(rt; p.r.low(), 366_503_875_925);
-    assert_eq!(rt; p.r.high(), 733_007_751_851);
+    assert_ends(&rt, p.r, 366_503_875_925, 733_007_751_851);
     high.k = ratio(1, 2)?;
     let q: SeriesParameters<Span<40>> = between(low, high).ok_or("no parameters")?;
     assert!(rt; !q.plain);
@@ -136,9 +141,7 @@ fn capacitor_to_ground(rt: HostRuntime) -> Result<(), Fail> {
     let order: Span<48> = order_range(5_000_000, 5_000_000);
     let b = Span::<48>::from_fraction(ratio(1, 4)?).ok_or("no interval")?;
     let y = shunt_admittance(b, order).ok_or("no value")?;
-    assert_eq!(rt; y.re.low(), 0);
-    assert_eq!(rt; y.re.high(), 0);
-    assert_eq!(rt; y.im.low(), 5 * UNIT_48 / 4);
-    assert_eq!(rt; y.im.high(), 5 * UNIT_48 / 4);
+    assert_ends(&rt, y.re, 0, 0);
+    assert_ends(&rt, y.im, 5 * UNIT_48 / 4, 5 * UNIT_48 / 4);
     Ok(())
 }

@@ -1,0 +1,17 @@
+// Networks that were worked by hand: systems, branches, live nodes, reductions, admittances, matrices and scans, by the public calls.
+#![tactic(auto)]
+
+#[cfg(test)]
+mod assemblies;
+#[cfg(test)]
+mod branches;
+#[cfg(test)]
+mod building;
+#[cfg(test)]
+mod fixtures;
+#[cfg(test)]
+mod reductions;
+#[cfg(test)]
+mod scans;
+#[cfg(test)]
+mod systems;
