@@ -7,7 +7,7 @@ use Rattle.network_theory.specs.Branch.{Coupling}
 open ratio_numbers use {nought, unit, ◌⊕◌, ◌⊗◌, minus, inverse}
 
 -- R(h) = r(1 + k - km/(m + h²)), in which km/(m + h²) counts as 0 where k is 0: it is km times the inverse of m + h².
--- Where k isn't 0 and m + h² is 0, which takes a negative m, no value is meant: the total inverse gives r(1 + k) here, and no claim may rest on it.
+-- Where k isn't 0 and m + h² is 0, which takes a negative m, no value is meant, whatever the total inverse gives, and no claim may rest on it.
 unfoldable pub resistance : Ratio → Ratio → Ratio → Order → Ratio
 resistance r k m h = r ⊗ (unit ⊕ k ⊕ minus (k ⊗ m ⊗ inverse (m ⊕ fraction h ⊗ fraction h)))
 
