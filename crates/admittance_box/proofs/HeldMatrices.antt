@@ -38,7 +38,7 @@ use Rattle.admittance_box.proofs.HeldEntries.{entries_same}
 use Rattle.admittance_box.proofs.HeldPairs.{Held, held_along, HoldsTap, taps_hold, pairs_hold, pairs-nought, plus-none}
 use Rattle.admittance_box.proofs.Laws.{series_encloses, shunt_encloses}
 use Rattle.admittance_box.proofs.LivePairs.{live_up}
-use Rattle.admittance_box.proofs.NodeOrders.{is_last, lists_live, order_along}
+use Rattle.admittance_box.proofs.NodeOrderings.{is_last, lists_live, order_along}
 use Rattle.admittance_box.proofs.Ranges.{zero_encloses, order_encloses}
 use Rattle.admittance_box.proofs.Steps.{bind-some}
 open complex_numbers use {◌≈◌, nought, ◌⊕◌}
@@ -46,32 +46,32 @@ open complex_field use {same, back, next}
 
 -- ---- one law
 -- a law between two, whose intervals have an admittance with a value, has one, which is held
-pub law_held : (s : ℕ) (order : Ends) (h : Order) → Encloses s order (fraction h) → (l u v : Law) (ends : LawEnds) (a : Box) → LawUpTo l v → LawUpTo v u → law_between s l u ≡ Some ends → law_box s order ends ≡ Some a
+pub law_held : (s : ℕ) (ordering : Ends) (h : Order) → Encloses s ordering (fraction h) → (l u v : Law) (ends : LawEnds) (a : Box) → LawUpTo l v → LawUpTo v u → law_between s l u ≡ Some ends → law_box s ordering ends ≡ Some a
     → (y : Complex) × IsAdmittance h v y × EnclosesComplex s a y
-law_held s order h ho (Series r k m x xc) (Series r' k' m' x' xc') (Series vr vk vm vx vc) ends a p q e g =
+law_held s ordering h ho (Series r k m x xc) (Series r' k' m' x' xc') (Series vr vk vm vx vc) ends a p q e g =
     let (ps, e1, e2) = map-some (series_between s r k m x xc r' k' m' x' xc') e in
     let held = series_held s r k m x xc r' k' m' x' xc' ps e1 vr vk vm vx vc p.0 q.0 p.1 q.1 p.2 q.2 p.3 q.3 p.4 q.4 in
-    series_encloses s ps order a h vr vk vm vx vc ho held (subst (λ l. law_box s order l ≡ Some a) e2 g)
+    series_encloses s ps ordering a h vr vk vm vx vc ho held (subst (λ l. law_box s ordering l ≡ Some a) e2 g)
   where
     map-some : (o : Option SeriesEnds) → option_map OfSeries o ≡ Some ends → (t : SeriesEnds) × (o ≡ Some t) × (ends ≡ OfSeries t)
     map-some (Some t) f = (t, refl, cc)
     map-some None f = absurd cc
-law_held s order h ho (Series r k m x xc) (Shunt c) (Series vr vk vm vx vc) ends a p q e g = absurd q
-law_held s order h ho (Series r k m x xc) (Coupled3 place values) (Series vr vk vm vx vc) ends a p q e g = absurd q
-law_held s order h ho (Series r k m x xc) u (Shunt vb) ends a p q e g = absurd p
-law_held s order h ho (Series r k m x xc) u (Coupled3 place values) ends a p q e g = absurd p
-law_held s order h ho (Shunt b) (Shunt c) (Shunt vb) ends a p q e g =
+law_held s ordering h ho (Series r k m x xc) (Shunt c) (Series vr vk vm vx vc) ends a p q e g = absurd q
+law_held s ordering h ho (Series r k m x xc) (Coupled3 place values) (Series vr vk vm vx vc) ends a p q e g = absurd q
+law_held s ordering h ho (Series r k m x xc) u (Shunt vb) ends a p q e g = absurd p
+law_held s ordering h ho (Series r k m x xc) u (Coupled3 place values) ends a p q e g = absurd p
+law_held s ordering h ho (Shunt b) (Shunt c) (Shunt vb) ends a p q e g =
     let (t, e1, e2) = map-some (range_ends s b c) e in
-    (shunt_admittance vb h, same _, shunt_encloses s t order a h vb ho (range_encloses s b c vb p q t e1) (subst (λ l. law_box s order l ≡ Some a) e2 g))
+    (shunt_admittance vb h, same _, shunt_encloses s t ordering a h vb ho (range_encloses s b c vb p q t e1) (subst (λ l. law_box s ordering l ≡ Some a) e2 g))
   where
     map-some : (o : Option Ends) → option_map OfShunt o ≡ Some ends → (t : Ends) × (o ≡ Some t) × (ends ≡ OfShunt t)
     map-some (Some t) f = (t, refl, cc)
     map-some None f = absurd cc
-law_held s order h ho (Shunt b) (Series r' k' m' x' xc') (Shunt vb) ends a p q e g = absurd q
-law_held s order h ho (Shunt b) (Coupled3 place values) (Shunt vb) ends a p q e g = absurd q
-law_held s order h ho (Shunt b) u (Series vr vk vm vx vc) ends a p q e g = absurd p
-law_held s order h ho (Shunt b) u (Coupled3 place values) ends a p q e g = absurd p
-law_held s order h ho (Coupled3 place values) u v ends a p q e g = absurd (none u e)
+law_held s ordering h ho (Shunt b) (Series r' k' m' x' xc') (Shunt vb) ends a p q e g = absurd q
+law_held s ordering h ho (Shunt b) (Coupled3 place values) (Shunt vb) ends a p q e g = absurd q
+law_held s ordering h ho (Shunt b) u (Series vr vk vm vx vc) ends a p q e g = absurd p
+law_held s ordering h ho (Shunt b) u (Coupled3 place values) ends a p q e g = absurd p
+law_held s ordering h ho (Coupled3 place values) u v ends a p q e g = absurd (none u e)
   where
     none : (u : Law) → law_between s (Coupled3 place values) u ≡ Some ends → ⊥
     none (Series r' k' m' x' xc') f = cc
@@ -80,18 +80,18 @@ law_held s order h ho (Coupled3 place values) u v ends a p q e g = absurd (none 
 
 -- ---- branches of dead nodes
 -- a node of the order has a place
-pub place-among : (n : ℕ) (order : List ℕ) → IsAmong n order → is_some (place_of order n) ≡ true
+pub place-among : (n : ℕ) (ordering : List ℕ) → IsAmong n ordering → is_some (place_of ordering n) ≡ true
 place-among n [] i = absurd i
-place-among n (m ∷ order) i = go (m == n) refl i (place-among n order)
+place-among n (m ∷ ordering) i = go (m == n) refl i (place-among n ordering)
   where
     later : (o : Option ℕ) → is_some o ≡ true → is_some (option_map suc o) ≡ true
     later (Some j) e = refl
     later None e = e
 
-    go : (t : Bool) → (m == n) ≡ t → IsAmong n (m ∷ order) → (IsAmong n order → is_some (place_of order n) ≡ true) → is_some (if t then Some 0 else option_map suc (place_of order n)) ≡ true
+    go : (t : Bool) → (m == n) ≡ t → IsAmong n (m ∷ ordering) → (IsAmong n ordering → is_some (place_of ordering n) ≡ true) → is_some (if t then Some 0 else option_map suc (place_of ordering n)) ≡ true
     go true e j more = refl
     go false e (inl q) more = absurd (let ne : m ≢ n = grind arith in ne (sym q))
-    go false e (inr j) more = later (place_of order n) (more j)
+    go false e (inr j) more = later (place_of ordering n) (more j)
 
 or_left : (a b : Bool) → a ≡ true → (a || b) ≡ true
 or_left a b e = grind arith
@@ -100,14 +100,14 @@ or_right : (a b : Bool) → b ≡ true → (a || b) ≡ true
 or_right a b e = grind arith
 
 -- a branch with a tap at a node of the order has a place; the other network's taps are at the same nodes
-has_place-tap : (order : List ℕ) (ts us : List Tap) → AllZip TapUpTo ts us → (t : Tap) → Contains us t → IsAmong t.node order → has_place order ts ≡ true
-has_place-tap order [] [] z t k i = absurd (omega (arith, k.1))
-has_place-tap order [] (u ∷ us) z t k i = absurd z
-has_place-tap order (w ∷ ts) [] z t k i = absurd z
-has_place-tap order (w ∷ ts) (u ∷ us) z t k i = go k.0 k.1 k.2 (λ j l e. has_place-tap order ts us z.1 t (j, l, e) i)
+has_place-tap : (ordering : List ℕ) (ts us : List Tap) → AllZip TapUpTo ts us → (t : Tap) → Contains us t → IsAmong t.node ordering → has_place ordering ts ≡ true
+has_place-tap ordering [] [] z t k i = absurd (omega (arith, k.1))
+has_place-tap ordering [] (u ∷ us) z t k i = absurd z
+has_place-tap ordering (w ∷ ts) [] z t k i = absurd z
+has_place-tap ordering (w ∷ ts) (u ∷ us) z t k i = go k.0 k.1 k.2 (λ j l e. has_place-tap ordering ts us z.1 t (j, l, e) i)
   where
-    go : (j : ℕ) → j < suc (length us) → get_or (u ∷ us) j t ≡ t → ((m : ℕ) → m < length us → get_or us m t ≡ t → has_place order ts ≡ true) → has_place order (w ∷ ts) ≡ true
-    go zero l e more = or_left _ _ (place-among w.node order (subst (λ n. IsAmong n order) (ap (λ (v : Tap). v.node) (sym e) ∙ sym z.0.node) i))
+    go : (j : ℕ) → j < suc (length us) → get_or (u ∷ us) j t ≡ t → ((m : ℕ) → m < length us → get_or us m t ≡ t → has_place ordering ts ≡ true) → has_place ordering (w ∷ ts) ≡ true
+    go zero l e more = or_left _ _ (place-among w.node ordering (subst (λ n. IsAmong n ordering) (ap (λ (v : Tap). v.node) (sym e) ∙ sym z.0.node) i))
     go (suc j) l e more = or_right _ _ (more j (omega arith) e)
 
 -- an uncoupled branch's partner is uncoupled
@@ -125,21 +125,21 @@ uncoupled_up a b p u = go a.law b.law p.law u
     go (Coupled3 place c) v q h = absurd h
 
 -- ---- one branch, and all
-module _ (s : ℕ) (order : List ℕ) (ends : Ends) (h : Order) (ho : Encloses s ends (fraction h)) (network : Network) (listed : ListsLive network order) where
+module _ (s : ℕ) (ordering : List ℕ) (ends : Ends) (h : Order) (ho : Encloses s ends (fraction h)) (network : Network) (listed : ListsLive network ordering) where
   -- what a branch adds is held
   record HeldBranch (f : ℕ → ℕ → Complex) (b : Branch) (after : List (List Box)) : Type 0 where
     y : Complex
     admitted : HasLiveNode network b → IsAdmittance h b.law y
-    held : Held s order (λ n k. f n k ⊕ pair_entry b.taps b.taps y n k) after
+    held : Held s ordering (λ n k. f n k ⊕ pair_entry b.taps b.taps y n k) after
 
-  joined_held : (a c b : Branch) → BranchUpTo a b → BranchUpTo b c → (law : Option LawEnds) → law_between s a.law c.law ≡ law → (taps : Option (List PlacedTap)) → taps_between s order a.taps c.taps ≡ taps
-      → (rows after : List (List Box)) (f : ℕ → ℕ → Complex) → with_addend s ends (joined law (taps >>= (λ ts. tap_pairs s ts ts))) rows ≡ Some after → Held s order f rows → HeldBranch f b after
+  joined_held : (a c b : Branch) → BranchUpTo a b → BranchUpTo b c → (law : Option LawEnds) → law_between s a.law c.law ≡ law → (taps : Option (List PlacedTap)) → taps_between s ordering a.taps c.taps ≡ taps
+      → (rows after : List (List Box)) (f : ℕ → ℕ → Complex) → with_addend s ends (joined law (taps >>= (λ ts. tap_pairs s ts ts))) rows ≡ Some after → Held s ordering f rows → HeldBranch f b after
   joined_held a c b p q None e taps i rows after f g held = absurd cc
   joined_held a c b p q (Some law) e None i rows after f g held = absurd cc
   joined_held a c b p q (Some law) e (Some taps) i rows after f g held = go (tap_pairs s taps taps) refl g
     where
-      at_taps : AllZip (HoldsTap s order) taps b.taps
-      at_taps = taps_hold s order a.taps c.taps b.taps taps p.taps q.taps i
+      at_taps : AllZip (HoldsTap s ordering) taps b.taps
+      at_taps = taps_hold s ordering a.taps c.taps b.taps taps p.taps q.taps i
 
       go : (pairs : Option (List TapPair)) → tap_pairs s taps taps ≡ pairs → with_addend s ends (joined (Some law) pairs) rows ≡ Some after → HeldBranch f b after
       go None k m = absurd cc
@@ -149,19 +149,19 @@ module _ (s : ℕ) (order : List ℕ) (ends : Ends) (h : Order) (ho : Encloses s
           record {
             y = y;
             admitted = λ l. is;
-            held = pairs_hold s order listed.distinct box y has taps b.taps at_taps taps b.taps at_taps pairs k rows after f e2 held;
+            held = pairs_hold s ordering listed.distinct box y has taps b.taps at_taps taps b.taps at_taps pairs k rows after f e2 held;
           }
 
-  branch_held : (a c b : Branch) → BranchUpTo a b → BranchUpTo b c → (rows after : List (List Box)) (f : ℕ → ℕ → Complex) → with_addend s ends (addend_between s order a c) rows ≡ Some after → Held s order f rows → HeldBranch f b after
-  branch_held a c b p q rows after f g held = go (has_place order a.taps) refl g
+  branch_held : (a c b : Branch) → BranchUpTo a b → BranchUpTo b c → (rows after : List (List Box)) (f : ℕ → ℕ → Complex) → with_addend s ends (addend_between s ordering a c) rows ≡ Some after → Held s ordering f rows → HeldBranch f b after
+  branch_held a c b p q rows after f g held = go (has_place ordering a.taps) refl g
     where
-      go : (t : Bool) → has_place order a.taps ≡ t → with_addend s ends (if t then joined (law_between s a.law c.law) (taps_between s order a.taps c.taps >>= (λ ts. tap_pairs s ts ts)) else Dead) rows ≡ Some after → HeldBranch f b after
-      go true e g = joined_held a c b p q (law_between s a.law c.law) refl (taps_between s order a.taps c.taps) refl rows after f g held
+      go : (t : Bool) → has_place ordering a.taps ≡ t → with_addend s ends (if t then joined (law_between s a.law c.law) (taps_between s ordering a.taps c.taps >>= (λ ts. tap_pairs s ts ts)) else Dead) rows ≡ Some after → HeldBranch f b after
+      go true e g = joined_held a c b p q (law_between s a.law c.law) refl (taps_between s ordering a.taps c.taps) refl rows after f g held
       go false e g = record {
         y = nought;
-        admitted = λ l. absurd (let has = has_place-tap order a.taps b.taps p.taps l.tap l.has (contains_among l.tap.node order ((listed.live l.tap.node).0 l.live)) in cc);
-        held = let is : rows ≡ after = cc in subst (Held s order (λ n k. f n k ⊕ pair_entry b.taps b.taps nought n k)) is
-            (held_along s order f (λ n k. f n k ⊕ pair_entry b.taps b.taps nought n k) rows (λ n k. plus-none (f n k) (pair_entry b.taps b.taps nought n k) (pairs-nought b.taps b.taps nought (same _) n k)) held);
+        admitted = λ l. absurd (let has = has_place-tap ordering a.taps b.taps p.taps l.tap l.has (contains_among l.tap.node ordering ((listed.live l.tap.node).0 l.live)) in cc);
+        held = let is : rows ≡ after = cc in subst (Held s ordering (λ n k. f n k ⊕ pair_entry b.taps b.taps nought n k)) is
+            (held_along s ordering f (λ n k. f n k ⊕ pair_entry b.taps b.taps nought n k) rows (λ n k. plus-none (f n k) (pair_entry b.taps b.taps nought n k) (pairs-nought b.taps b.taps nought (same _) n k)) held);
       }
 
   -- exact admittances of branches, whose sums with f are held
@@ -169,18 +169,18 @@ module _ (s : ℕ) (order : List ℕ) (ends : Ends) (h : Order) (ho : Encloses s
     pub parts : List Part
     pub split : IsSplit bs parts
     pub live : EachLivePart network h parts
-    pub held : Held s order (λ n k. f n k ⊕ nodal_entry parts n k) boxes
+    pub held : Held s ordering (λ n k. f n k ⊕ nodal_entry parts n k) boxes
 
   pub addends_held : (ls hs bs : List Branch) → AllZip BranchUpTo ls bs → AllZip BranchUpTo bs hs → AllByRecursion IsUncoupled ls → (i : ℕ) (rows boxes : List (List Box)) (f : ℕ → ℕ → Complex)
-      → with_addends s ends i (addends_between s order ls hs) rows ≡ Ok boxes → Held s order f rows → HeldSum bs f boxes
+      → with_addends s ends i (addends_between s ordering ls hs) rows ≡ Ok boxes → Held s ordering f rows → HeldSum bs f boxes
   addends_held [] hs [] p q u i rows boxes f e held =
       let is : rows ≡ boxes = cc in
-      record { parts = []; split = end; live = tt; held = subst (Held s order (λ n k. f n k ⊕ nought)) is (held_along s order f (λ n k. f n k ⊕ nought) rows (λ n k. plus-none (f n k) nought (same _)) held) }
+      record { parts = []; split = end; live = tt; held = subst (Held s ordering (λ n k. f n k ⊕ nought)) is (held_along s ordering f (λ n k. f n k ⊕ nought) rows (λ n k. plus-none (f n k) nought (same _)) held) }
   addends_held [] hs (b ∷ bs) p q u i rows boxes f e held = absurd p
   addends_held (l ∷ ls) hs [] p q u i rows boxes f e held = absurd p
   addends_held (l ∷ ls) [] (b ∷ bs) p q u i rows boxes f e held = absurd q
   addends_held (l ∷ ls) (c ∷ hs) (b ∷ bs) p q u i rows boxes f e held =
-      go (with_addend s ends (addend_between s order l c) rows) refl e (λ mid g m. addends_held ls hs bs p.1 q.1 u.1 (suc i) mid boxes g m)
+      go (with_addend s ends (addend_between s ordering l c) rows) refl e (λ mid g m. addends_held ls hs bs p.1 q.1 u.1 (suc i) mid boxes g m)
     where
       only : (o : Branch) → Contains (b ∷ []) o → b ≡ o
       only o k = at k.0 k.1 k.2
@@ -192,8 +192,8 @@ module _ (s : ℕ) (order : List ℕ) (ends : Ends) (h : Order) (ho : Encloses s
       regroup : (a b c : Complex) → (a ⊕ b) ⊕ c ≈ a ⊕ (b ⊕ c)
       regroup a b c = ring R (a ∷ b ∷ c ∷ []) (search reads depth 40 fits 4000) none_left
 
-      go : (o : Option (List (List Box))) → with_addend s ends (addend_between s order l c) rows ≡ o → or_branch i o (with_addends s ends (suc i) (addends_between s order ls hs)) ≡ Ok boxes
-          → ((mid : List (List Box)) (g : ℕ → ℕ → Complex) → with_addends s ends (suc i) (addends_between s order ls hs) mid ≡ Ok boxes → Held s order g mid → HeldSum bs g boxes) → HeldSum (b ∷ bs) f boxes
+      go : (o : Option (List (List Box))) → with_addend s ends (addend_between s ordering l c) rows ≡ o → or_branch i o (with_addends s ends (suc i) (addends_between s ordering ls hs)) ≡ Ok boxes
+          → ((mid : List (List Box)) (g : ℕ → ℕ → Complex) → with_addends s ends (suc i) (addends_between s ordering ls hs) mid ≡ Ok boxes → Held s ordering g mid → HeldSum bs g boxes) → HeldSum (b ∷ bs) f boxes
       go None k m more = absurd cc
       go (Some mid) k m more =
           let here = branch_held l c b p.0 q.0 rows mid f k held in
@@ -202,34 +202,34 @@ module _ (s : ℕ) (order : List ℕ) (ends : Ends) (h : Order) (ho : Encloses s
             parts = Alone b here.y ∷ rest.parts;
             split = one b here.y bs rest.parts (uncoupled_up l b p.0 u.0) rest.split;
             live = (λ o k v. alone b here.y (here.admitted (subst (HasLiveNode network) (sym (only o k)) v)), rest.live);
-            held = held_along s order (λ n k. (f n k ⊕ pair_entry b.taps b.taps here.y n k) ⊕ nodal_entry rest.parts n k) (λ n k. f n k ⊕ nodal_entry (Alone b here.y ∷ rest.parts) n k) boxes
+            held = held_along s ordering (λ n k. (f n k ⊕ pair_entry b.taps b.taps here.y n k) ⊕ nodal_entry rest.parts n k) (λ n k. f n k ⊕ nodal_entry (Alone b here.y ∷ rest.parts) n k) boxes
                 (λ n k. regroup (f n k) (pair_entry b.taps b.taps here.y n k) (nodal_entry rest.parts n k)) rest.held;
           }
 
 -- ---- the exact matrix
 -- rows of f
 abbrev exact_rows : (ℕ → ℕ → Complex) → List ℕ → List ℕ → List (List Complex)
-exact_rows f order nodes = map (λ n. map (f n) order) nodes
+exact_rows f ordering nodes = map (λ n. map (f n) ordering) nodes
 
-row_of : (g : ℕ → Complex) (order : List ℕ) → AllZip (λ k e. e ≈ g k) order (map g order)
+row_of : (g : ℕ → Complex) (ordering : List ℕ) → AllZip (λ k e. e ≈ g k) ordering (map g ordering)
 row_of g [] = tt
-row_of g (k ∷ order) = (same _, row_of g order)
+row_of g (k ∷ ordering) = (same _, row_of g ordering)
 
-rows_of : (f : ℕ → ℕ → Complex) (order nodes : List ℕ) → AllZip (λ n row. AllZip (λ k e. e ≈ f n k) order row) nodes (exact_rows f order nodes)
-rows_of f order [] = tt
-rows_of f order (n ∷ nodes) = (row_of (f n) order, rows_of f order nodes)
+rows_of : (f : ℕ → ℕ → Complex) (ordering nodes : List ℕ) → AllZip (λ n row. AllZip (λ k e. e ≈ f n k) ordering row) nodes (exact_rows f ordering nodes)
+rows_of f ordering [] = tt
+rows_of f ordering (n ∷ nodes) = (row_of (f n) ordering, rows_of f ordering nodes)
 
-row_held : (s : ℕ) (g : ℕ → Complex) (order : List ℕ) (row : List Box) → AllZip (λ k e. EnclosesComplex s e (g k)) order row → AllZip (EnclosesComplex s) row (map g order)
+row_held : (s : ℕ) (g : ℕ → Complex) (ordering : List ℕ) (row : List Box) → AllZip (λ k e. EnclosesComplex s e (g k)) ordering row → AllZip (EnclosesComplex s) row (map g ordering)
 row_held s g [] [] z = tt
 row_held s g [] (e ∷ row) z = absurd z
-row_held s g (k ∷ order) [] z = absurd z
-row_held s g (k ∷ order) (e ∷ row) z = (z.0, row_held s g order row z.1)
+row_held s g (k ∷ ordering) [] z = absurd z
+row_held s g (k ∷ ordering) (e ∷ row) z = (z.0, row_held s g ordering row z.1)
 
-rows_held : (s : ℕ) (f : ℕ → ℕ → Complex) (order nodes : List ℕ) (rows : List (List Box)) → AllZip (λ n row. AllZip (λ k e. EnclosesComplex s e (f n k)) order row) nodes rows → HoldsRows (EnclosesComplex s) rows (exact_rows f order nodes)
-rows_held s f order [] [] z = tt
-rows_held s f order [] (r ∷ rows) z = absurd z
-rows_held s f order (n ∷ nodes) [] z = absurd z
-rows_held s f order (n ∷ nodes) (r ∷ rows) z = (row_held s (f n) order r z.0, rows_held s f order nodes rows z.1)
+rows_held : (s : ℕ) (f : ℕ → ℕ → Complex) (ordering nodes : List ℕ) (rows : List (List Box)) → AllZip (λ n row. AllZip (λ k e. EnclosesComplex s e (f n k)) ordering row) nodes rows → HoldsRows (EnclosesComplex s) rows (exact_rows f ordering nodes)
+rows_held s f ordering [] [] z = tt
+rows_held s f ordering [] (r ∷ rows) z = absurd z
+rows_held s f ordering (n ∷ nodes) [] z = absurd z
+rows_held s f ordering (n ∷ nodes) (r ∷ rows) z = (row_held s (f n) ordering r z.0, rows_held s f ordering nodes rows z.1)
 
 nought_held : (s : ℕ) → EnclosesComplex s nought_box nought
 nought_held s = record {
@@ -242,22 +242,22 @@ plain_sum a = ring R (a ∷ []) (search reads depth 40 fits 4000) none_left
 
 pub box_matrix_holds : (s : ℕ) → BoxMatrixHolds s
 unfolding box_matrix
-box_matrix_holds s low high driven order can lo hi boxes e h i lies network between =
-    let ordered = order_along low network driven order between.from_low can.ordered in
-    let listed = lists_live network driven order between.whole (live_up low network between.from_low driven can.driven_is_live) ordered in
-    let start : Held s order (λ n k. nought) (nought_rows (length order)) = entries_same (λ n k b. EnclosesComplex s b nought) nought_box (λ n k. nought_held s) order in
-    let sum = addends_held s order (order_ends s lo hi) h (order_encloses s lo hi h i lies) network listed low.branches high.branches network.branches between.from_low.branches between.to_high.branches can.no_group
-    0 (nought_rows (length order)) boxes (λ n k. nought) e start in
-    let (n, last) = is_last low driven order can.ordered in
+box_matrix_holds s low high driven ordering can lo hi boxes e h i lies network between =
+    let ordered = order_along low network driven ordering between.from_low can.ordered in
+    let listed = lists_live network driven ordering between.whole (live_up low network between.from_low driven can.driven_is_live) ordered in
+    let start : Held s ordering (λ n k. nought) (nought_rows (length ordering)) = entries_same (λ n k b. EnclosesComplex s b nought) nought_box (λ n k. nought_held s) ordering in
+    let sum = addends_held s ordering (order_ends s lo hi) h (order_encloses s lo hi h i lies) network listed low.branches high.branches network.branches between.from_low.branches between.to_high.branches can.no_group
+    0 (nought_rows (length ordering)) boxes (λ n k. nought) e start in
+    let (n, last) = is_last low driven ordering can.ordered in
     record {
       parts = sum.parts;
-      rows = exact_rows (nodal_entry sum.parts) order order;
+      rows = exact_rows (nodal_entry sum.parts) ordering ordering;
       n = n;
       system = record {
         admitted = split_admittances network h sum.parts sum.split sum.live;
         listed = listed;
-        entries = rows_of (nodal_entry sum.parts) order order;
+        entries = rows_of (nodal_entry sum.parts) ordering ordering;
       };
       last = last;
-      held = rows_held s (nodal_entry sum.parts) order order boxes (held_along s order (λ n k. nought ⊕ nodal_entry sum.parts n k) (nodal_entry sum.parts) boxes (λ n k. plain_sum (nodal_entry sum.parts n k)) sum.held);
+      held = rows_held s (nodal_entry sum.parts) ordering ordering boxes (held_along s ordering (λ n k. nought ⊕ nodal_entry sum.parts n k) (nodal_entry sum.parts) boxes (λ n k. plain_sum (nodal_entry sum.parts n k)) sum.held);
     }

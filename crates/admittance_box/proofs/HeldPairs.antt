@@ -54,34 +54,34 @@ scaled-is z x =
 
 -- the boxes hold f of each two nodes
 abbrev pub Held : ℕ → List ℕ → (ℕ → ℕ → Complex) → List (List Box) → Type 0
-Held s order f rows = AtEntries (λ n k e. EnclosesComplex s e (f n k)) order order rows
+Held s ordering f rows = AtEntries (λ n k e. EnclosesComplex s e (f n k)) ordering ordering rows
 
-pub held_along : (s : ℕ) (order : List ℕ) (f g : ℕ → ℕ → Complex) (rows : List (List Box)) → ((n k : ℕ) → f n k ≈ g n k) → Held s order f rows → Held s order g rows
-held_along s order f g rows e = entries_map (λ n k b. EnclosesComplex s b (f n k)) (λ n k b. EnclosesComplex s b (g n k)) (λ n k b. along s b (f n k) (g n k) (e n k)) order order rows
+pub held_along : (s : ℕ) (ordering : List ℕ) (f g : ℕ → ℕ → Complex) (rows : List (List Box)) → ((n k : ℕ) → f n k ≈ g n k) → Held s ordering f rows → Held s ordering g rows
+held_along s ordering f g rows e = entries_map (λ n k b. EnclosesComplex s b (f n k)) (λ n k b. EnclosesComplex s b (g n k)) (λ n k b. along s b (f n k) (g n k) (e n k)) ordering ordering rows
 
 -- a placed tap stands for an exact one: its node's place, and its ratio
-pub record HoldsTap (s : ℕ) (order : List ℕ) (p : PlacedTap) (v : Tap) : Type 0 where
-  pub place : place_of order v.node ≡ Some p.place
+pub record HoldsTap (s : ℕ) (ordering : List ℕ) (p : PlacedTap) (v : Tap) : Type 0 where
+  pub place : place_of ordering v.node ≡ Some p.place
   pub ratio : Encloses s p.ratio v.ratio
 
-tap_holds : (s : ℕ) (order : List ℕ) (t u v : Tap) (p : PlacedTap) → TapUpTo t v → TapUpTo v u → tap_between s order t u ≡ Some p → HoldsTap s order p v
-tap_holds s order t u v p a b e =
+tap_holds : (s : ℕ) (ordering : List ℕ) (t u v : Tap) (p : PlacedTap) → TapUpTo t v → TapUpTo v u → tap_between s ordering t u ≡ Some p → HoldsTap s ordering p v
+tap_holds s ordering t u v p a b e =
     let (place, e1, n1) = bind-some _ _ p e in
     let (ratio, e2, e3) = bind-some _ _ p n1 in
     let is : record { place = place; ratio = ratio } ≡ p = cc in
-    subst (λ (q : PlacedTap). HoldsTap s order q v) is
-    (record { place = subst (λ n. place_of order n ≡ Some place) a.node e1; ratio = range_encloses s t.ratio u.ratio v.ratio a.ratio b.ratio ratio e2 })
+    subst (λ (q : PlacedTap). HoldsTap s ordering q v) is
+    (record { place = subst (λ n. place_of ordering n ≡ Some place) a.node e1; ratio = range_encloses s t.ratio u.ratio v.ratio a.ratio b.ratio ratio e2 })
 
-pub taps_hold : (s : ℕ) (order : List ℕ) (ts us vs : List Tap) (placed : List PlacedTap) → AllZip TapUpTo ts vs → AllZip TapUpTo vs us → taps_between s order ts us ≡ Some placed → AllZip (HoldsTap s order) placed vs
-taps_hold s order [] us [] placed a b e = let is : [] ≡ placed = cc in subst (λ (l : List PlacedTap). AllZip (HoldsTap s order) l []) is tt
-taps_hold s order [] us (v ∷ vs) placed a b e = absurd a
-taps_hold s order (t ∷ ts) us [] placed a b e = absurd a
-taps_hold s order (t ∷ ts) [] (v ∷ vs) placed a b e = absurd b
-taps_hold s order (t ∷ ts) (u ∷ us) (v ∷ vs) placed a b e =
+pub taps_hold : (s : ℕ) (ordering : List ℕ) (ts us vs : List Tap) (placed : List PlacedTap) → AllZip TapUpTo ts vs → AllZip TapUpTo vs us → taps_between s ordering ts us ≡ Some placed → AllZip (HoldsTap s ordering) placed vs
+taps_hold s ordering [] us [] placed a b e = let is : [] ≡ placed = cc in subst (λ (l : List PlacedTap). AllZip (HoldsTap s ordering) l []) is tt
+taps_hold s ordering [] us (v ∷ vs) placed a b e = absurd a
+taps_hold s ordering (t ∷ ts) us [] placed a b e = absurd a
+taps_hold s ordering (t ∷ ts) [] (v ∷ vs) placed a b e = absurd b
+taps_hold s ordering (t ∷ ts) (u ∷ us) (v ∷ vs) placed a b e =
     let (tap, e1, n1) = bind-some _ _ placed e in
     let (taps, e2, e3) = bind-some _ _ placed n1 in
     let is : tap ∷ taps ≡ placed = cc in
-    subst (λ l. AllZip (HoldsTap s order) l (v ∷ vs)) is (tap_holds s order t u v tap a.0 b.0 e1, taps_hold s order ts us vs taps a.1 b.1 e2)
+    subst (λ l. AllZip (HoldsTap s ordering) l (v ∷ vs)) is (tap_holds s ordering t u v tap a.0 b.0 e1, taps_hold s ordering ts us vs taps a.1 b.1 e2)
 
 -- what a pair of exact taps adds to the entry of two nodes
 abbrev pair_of : Tap → Tap → Complex → ℕ → ℕ → Complex
@@ -122,10 +122,10 @@ plus-none a b e = linear R (a ∷ b ∷ []) (weigh R (minus unit) e) (search rea
 plus-same : (a b c : Complex) → b ≈ c → a ⊕ c ≈ a ⊕ b
 plus-same a b c e = linear R (a ∷ b ∷ c ∷ []) (weigh R (minus unit) e) (search reads depth 40 fits 4000) none_left
 
-module _ (s : ℕ) (order : List ℕ) (distinct : IsDistinct order) (y : Box) (z : Complex) (y_held : EnclosesComplex s y z) where
+module _ (s : ℕ) (ordering : List ℕ) (distinct : IsDistinct ordering) (y : Box) (z : Complex) (y_held : EnclosesComplex s y z) where
   -- one pair
-  grown_holds : (p q : PlacedTap) (v w : Tap) (factor : Ends) (rows after : List (List Box)) (f : ℕ → ℕ → Complex) → HoldsTap s order p v → HoldsTap s order q w → mul_ends s p.ratio q.ratio ≡ Some factor
-      → grown s y (record { row = p.place; column = q.place; factor = factor }) rows ≡ Some after → Held s order f rows → Held s order (λ n k. f n k ⊕ pair_of v w z n k) after
+  grown_holds : (p q : PlacedTap) (v w : Tap) (factor : Ends) (rows after : List (List Box)) (f : ℕ → ℕ → Complex) → HoldsTap s ordering p v → HoldsTap s ordering q w → mul_ends s p.ratio q.ratio ≡ Some factor
+      → grown s y (record { row = p.place; column = q.place; factor = factor }) rows ≡ Some after → Held s ordering f rows → Held s ordering (λ n k. f n k ⊕ pair_of v w z n k) after
   grown_holds p q v w factor rows after f hp hq e g held =
       let (more, e1, n1) = bind-some _ _ after g in
       let (before, e2, n2) = bind-some _ _ after n1 in
@@ -135,8 +135,8 @@ module _ (s : ℕ) (order : List ℕ) (distinct : IsDistinct order) (y : Box) (z
       let more_held = along s more _ exact (scaled-is z (times v.ratio w.ratio)) (scale_encloses_box s y more factor z (times v.ratio w.ratio) y_held (mul_encloses s p.ratio q.ratio v.ratio w.ratio hp.ratio hq.ratio factor e) e1) in
       let P : ℕ → ℕ → Box → Type 0 = λ n k b. EnclosesComplex s b (f n k) in
       let Q : ℕ → ℕ → Box → Type 0 = λ n k b. EnclosesComplex s b (f n k ⊕ pair_of v w z n k) in
-      subst (Held s order (λ n k. f n k ⊕ pair_of v w z n k)) is
-      (entry_set P Q v.node w.node order order rows p.place q.place before sum distinct distinct hp.place hq.place e2
+      subst (Held s ordering (λ n k. f n k ⊕ pair_of v w z n k)) is
+      (entry_set P Q v.node w.node ordering ordering rows p.place q.place before sum distinct distinct hp.place hq.place e2
       (λ n k b ne has. along s b (f n k) (f n k ⊕ pair_of v w z n k) (plus-none _ _ (pair-none v w z n k ne)) has)
       (λ has. along s sum _ _ (plus-same _ _ _ (pair-here v w z)) (add_encloses_box s before more sum (f v.node w.node) exact has more_held e3))
       held)
@@ -150,13 +150,13 @@ module _ (s : ℕ) (order : List ℕ) (distinct : IsDistinct order) (y : Box) (z
       go None h = refl
 
   -- the pairs of one tap
-  row_holds : (p : PlacedTap) (v : Tap) → HoldsTap s order p v → (qs : List PlacedTap) (ws : List Tap) → AllZip (HoldsTap s order) qs ws → (pairs : List TapPair) → pairs_with s p qs ≡ Some pairs
-      → (rows after : List (List Box)) (f : ℕ → ℕ → Complex) → with_pairs s y pairs rows ≡ Some after → Held s order f rows → Held s order (λ n k. f n k ⊕ where_equal complex_numbers v.node n (tap_entry v ws z k)) after
+  row_holds : (p : PlacedTap) (v : Tap) → HoldsTap s ordering p v → (qs : List PlacedTap) (ws : List Tap) → AllZip (HoldsTap s ordering) qs ws → (pairs : List TapPair) → pairs_with s p qs ≡ Some pairs
+      → (rows after : List (List Box)) (f : ℕ → ℕ → Complex) → with_pairs s y pairs rows ≡ Some after → Held s ordering f rows → Held s ordering (λ n k. f n k ⊕ where_equal complex_numbers v.node n (tap_entry v ws z k)) after
   row_holds p v hp [] [] h pairs e rows after f g held =
       let none : [] ≡ pairs = cc in
       let is : rows ≡ after = cc in
-      subst (Held s order (λ n k. f n k ⊕ where_equal complex_numbers v.node n nought)) is
-      (held_along s order f (λ n k. f n k ⊕ where_equal complex_numbers v.node n nought) rows (λ n k. no_more v.node n (f n k)) held)
+      subst (Held s ordering (λ n k. f n k ⊕ where_equal complex_numbers v.node n nought)) is
+      (held_along s ordering f (λ n k. f n k ⊕ where_equal complex_numbers v.node n nought) rows (λ n k. no_more v.node n (f n k)) held)
     where
       no_more : (m n : ℕ) (a : Complex) → a ≈ a ⊕ where_equal complex_numbers m n nought
       no_more m n a = linear R (a ∷ one_at m n ∷ where_equal complex_numbers m n nought ∷ []) (weigh R (minus unit) (where_equal-is m n nought)) (search reads depth 40 fits 4000) none_left
@@ -172,7 +172,7 @@ module _ (s : ℕ) (order : List ℕ) (distinct : IsDistinct order) (y : Box) (z
       let (mid, g1, g2) = bind-some _ _ after g' in
       let one = grown_holds p q v w factor rows mid f hp h.0 e1 g1 held in
       let more = row_holds p v hp qs ws h.1 rest e2 mid after (λ n k. f n k ⊕ pair_of v w z n k) g2 one in
-      held_along s order (λ n k. (f n k ⊕ pair_of v w z n k) ⊕ where_equal complex_numbers v.node n (tap_entry v ws z k)) (λ n k. f n k ⊕ where_equal complex_numbers v.node n (tap_entry v (w ∷ ws) z k)) after
+      held_along s ordering (λ n k. (f n k ⊕ pair_of v w z n k) ⊕ where_equal complex_numbers v.node n (tap_entry v ws z k)) (λ n k. f n k ⊕ where_equal complex_numbers v.node n (tap_entry v (w ∷ ws) z k)) after
       (λ n k. both v.node n (f n k) (where_equal complex_numbers w.node k (real (times v.ratio w.ratio) ⊗ z)) (tap_entry v ws z k)) more
     where
       both : (m n : ℕ) (a b c : Complex) → (a ⊕ where_equal complex_numbers m n b) ⊕ where_equal complex_numbers m n c ≈ a ⊕ where_equal complex_numbers m n (b ⊕ c)
@@ -182,12 +182,12 @@ module _ (s : ℕ) (order : List ℕ) (distinct : IsDistinct order) (y : Box) (z
           (search reads depth 40 fits 4000) none_left
 
   -- all pairs of two lists of taps
-  pub pairs_hold : (ps : List PlacedTap) (vs : List Tap) → AllZip (HoldsTap s order) ps vs → (qs : List PlacedTap) (ws : List Tap) → AllZip (HoldsTap s order) qs ws → (pairs : List TapPair) → tap_pairs s ps qs ≡ Some pairs
-      → (rows after : List (List Box)) (f : ℕ → ℕ → Complex) → with_pairs s y pairs rows ≡ Some after → Held s order f rows → Held s order (λ n k. f n k ⊕ pair_entry vs ws z n k) after
+  pub pairs_hold : (ps : List PlacedTap) (vs : List Tap) → AllZip (HoldsTap s ordering) ps vs → (qs : List PlacedTap) (ws : List Tap) → AllZip (HoldsTap s ordering) qs ws → (pairs : List TapPair) → tap_pairs s ps qs ≡ Some pairs
+      → (rows after : List (List Box)) (f : ℕ → ℕ → Complex) → with_pairs s y pairs rows ≡ Some after → Held s ordering f rows → Held s ordering (λ n k. f n k ⊕ pair_entry vs ws z n k) after
   pairs_hold [] [] a qs ws h pairs e rows after f g held =
       let none : [] ≡ pairs = cc in
       let is : rows ≡ after = cc in
-      subst (Held s order (λ n k. f n k ⊕ nought)) is (held_along s order f (λ n k. f n k ⊕ nought) rows (λ n k. plus-none (f n k) nought (same _)) held)
+      subst (Held s ordering (λ n k. f n k ⊕ nought)) is (held_along s ordering f (λ n k. f n k ⊕ nought) rows (λ n k. plus-none (f n k) nought (same _)) held)
   pairs_hold [] (v ∷ vs) a qs ws h pairs e rows after f g held = absurd a
   pairs_hold (p ∷ ps) [] a qs ws h pairs e rows after f g held = absurd a
   pairs_hold (p ∷ ps) (v ∷ vs) a qs ws h pairs e rows after f g held =
@@ -198,7 +198,7 @@ module _ (s : ℕ) (order : List ℕ) (distinct : IsDistinct order) (y : Box) (z
       let (mid, g1, g2) = bind-some _ _ after (sym (with_pairs-append row rest rows) ∙ g') in
       let one = row_holds p v a.0 qs ws h row e1 rows mid f g1 held in
       let more = pairs_hold ps vs a.1 qs ws h rest e2 mid after (λ n k. f n k ⊕ where_equal complex_numbers v.node n (tap_entry v ws z k)) g2 one in
-      held_along s order (λ n k. (f n k ⊕ where_equal complex_numbers v.node n (tap_entry v ws z k)) ⊕ pair_entry vs ws z n k) (λ n k. f n k ⊕ pair_entry (v ∷ vs) ws z n k) after
+      held_along s ordering (λ n k. (f n k ⊕ where_equal complex_numbers v.node n (tap_entry v ws z k)) ⊕ pair_entry vs ws z n k) (λ n k. f n k ⊕ pair_entry (v ∷ vs) ws z n k) after
       (λ n k. regroup (f n k) (where_equal complex_numbers v.node n (tap_entry v ws z k)) (pair_entry vs ws z n k)) more
     where
       regroup : (a b c : Complex) → (a ⊕ b) ⊕ c ≈ a ⊕ (b ⊕ c)

@@ -6,9 +6,9 @@ pub mod HeldMatrices
 pub mod HeldPairs
 pub mod Laws
 pub mod LivePairs
-pub mod MadeOrders
+pub mod MadeOrderings
 pub mod NodeLoops
-pub mod NodeOrders
+pub mod NodeOrderings
 pub mod PairPlaces
 pub mod Ranges
 pub mod ReducedMatrices

@@ -30,11 +30,11 @@ passed_over live driven node to before whole l t h =
     ∙ h
 
 -- one more branch
-pub branches_more : {X : Type 0} (s : ℕ) (order : List ℕ) (low high : List Branch) (i : ℕ) (a b : Branch) → i < length low → a ≡ get_or low i a → i < length high → b ≡ get_or high i b
-    → (f : X → Addend) (items after : List X) (x : X) (whole : List Addend) → after ≡ items ++ x ∷ [] → f x ≡ addend_between s order (exact_branch a) (exact_branch b)
-    → whole ≡ map f items ++ addends_between s order (map exact_branch (drop i low)) (map exact_branch (drop i high))
-    → whole ≡ map f after ++ addends_between s order (map exact_branch (drop (i + 1) low)) (map exact_branch (drop (i + 1) high))
-branches_more s order low high i a b la ea lb eb f items after x whole e k h =
-    let rest = addends_between s order (map exact_branch (drop (i + 1) low)) (map exact_branch (drop (i + 1) high)) in
-    let first : addends_between s order (map exact_branch (drop i low)) (map exact_branch (drop i high)) ≡ f x ∷ rest = rw (drop_item low i a la ea, drop_item high i b lb eb) (ap (λ y. y ∷ rest) (sym k)) in
+pub branches_more : {X : Type 0} (s : ℕ) (ordering : List ℕ) (low high : List Branch) (i : ℕ) (a b : Branch) → i < length low → a ≡ get_or low i a → i < length high → b ≡ get_or high i b
+    → (f : X → Addend) (items after : List X) (x : X) (whole : List Addend) → after ≡ items ++ x ∷ [] → f x ≡ addend_between s ordering (exact_branch a) (exact_branch b)
+    → whole ≡ map f items ++ addends_between s ordering (map exact_branch (drop i low)) (map exact_branch (drop i high))
+    → whole ≡ map f after ++ addends_between s ordering (map exact_branch (drop (i + 1) low)) (map exact_branch (drop (i + 1) high))
+branches_more s ordering low high i a b la ea lb eb f items after x whole e k h =
+    let rest = addends_between s ordering (map exact_branch (drop (i + 1) low)) (map exact_branch (drop (i + 1) high)) in
+    let first : addends_between s ordering (map exact_branch (drop i low)) (map exact_branch (drop i high)) ≡ f x ∷ rest = rw (drop_item low i a la ea, drop_item high i b lb eb) (ap (λ y. y ∷ rest) (sym k)) in
     h ∙ ap (λ l. map f items ++ l) first ∙ sym (append_assoc (map f items) (f x ∷ []) rest) ∙ ap (λ l. l ++ rest) (sym (ap (map f) e ∙ map-append_one f items x))

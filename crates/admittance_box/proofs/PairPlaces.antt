@@ -25,35 +25,35 @@ use Rattle.admittance_box.proofs.Steps.{bind-some}
 
 -- ---- nodes
 -- the node at its place
-pub place-get : (order : List ℕ) (n i : ℕ) → place_of order n ≡ Some i → slice_get order i ≡ Some n
+pub place-get : (ordering : List ℕ) (n i : ℕ) → place_of ordering n ≡ Some i → slice_get ordering i ≡ Some n
 place-get [] n i e = absurd cc
-place-get (m ∷ order) n i e = go (m == n) refl e (λ j k. place-get order n j k)
+place-get (m ∷ ordering) n i e = go (m == n) refl e (λ j k. place-get ordering n j k)
   where
-    go : (t : Bool) → (m == n) ≡ t → (if t then Some 0 else option_map suc (place_of order n)) ≡ Some i → ((j : ℕ) → place_of order n ≡ Some j → slice_get order j ≡ Some n) → slice_get (m ∷ order) i ≡ Some n
+    go : (t : Bool) → (m == n) ≡ t → (if t then Some 0 else option_map suc (place_of ordering n)) ≡ Some i → ((j : ℕ) → place_of ordering n ≡ Some j → slice_get ordering j ≡ Some n) → slice_get (m ∷ ordering) i ≡ Some n
     go true q k more =
         let at : m ≡ n = grind arith in
         let first : 0 ≡ i = grind arith in
-        subst (λ j. slice_get (m ∷ order) j ≡ Some n) first (ap Some at)
+        subst (λ j. slice_get (m ∷ ordering) j ≡ Some n) first (ap Some at)
     go false q k more =
-        let (j, pj, is) = some_suc (place_of order n) i k in
-        subst (λ l. slice_get (m ∷ order) l ≡ Some n) is (more j pj)
+        let (j, pj, is) = some_suc (place_of ordering n) i k in
+        subst (λ l. slice_get (m ∷ ordering) l ≡ Some n) is (more j pj)
 
-pub place-below : (order : List ℕ) (n i : ℕ) → place_of order n ≡ Some i → i < length order
-place-below order n i e = slice_get_within order i n (place-get order n i e)
+pub place-below : (ordering : List ℕ) (n i : ℕ) → place_of ordering n ≡ Some i → i < length ordering
+place-below ordering n i e = slice_get_within ordering i n (place-get ordering n i e)
 
-among_at : (order : List ℕ) (i n : ℕ) → slice_get order i ≡ Some n → IsAmong n order
+among_at : (ordering : List ℕ) (i n : ℕ) → slice_get ordering i ≡ Some n → IsAmong n ordering
 among_at [] i n e = absurd cc
-among_at (m ∷ order) zero n e = inl (let q : m ≡ n = grind arith in sym q)
-among_at (m ∷ order) (suc i) n e = inr (among_at order i n e)
+among_at (m ∷ ordering) zero n e = inl (let q : m ≡ n = grind arith in sym q)
+among_at (m ∷ ordering) (suc i) n e = inr (among_at ordering i n e)
 
 -- a node has a place exactly where it is live
-pub place_live : (network : Network) (order : List ℕ) (n : ℕ) (o : Option ℕ) → ListsLive network order → o ≡ place_of order n → (IsSome o → Live network n) × (Live network n → IsSome o)
-place_live network order n None l e = (λ h. absurd cc, λ v. let has = place-among n order (contains_among n order ((l.live n).0 v)) in let same : is_some (place_of order n) ≡ false = ap is_some (sym e) in absurd cc)
-place_live network order n (Some i) l e = (λ h. (l.live n).1 (among_contains n order (among_at order i n (place-get order n i (sym e)))), λ v. refl)
+pub place_live : (network : Network) (ordering : List ℕ) (n : ℕ) (o : Option ℕ) → ListsLive network ordering → o ≡ place_of ordering n → (IsSome o → Live network n) × (Live network n → IsSome o)
+place_live network ordering n None l e = (λ h. absurd cc, λ v. let has = place-among n ordering (contains_among n ordering ((l.live n).0 v)) in let same : is_some (place_of ordering n) ≡ false = ap is_some (sym e) in absurd cc)
+place_live network ordering n (Some i) l e = (λ h. (l.live n).1 (among_contains n ordering (among_at ordering i n (place-get ordering n i (sym e)))), λ v. refl)
 
-pub place_is : (order : List ℕ) (n : ℕ) (o : Option ℕ) → o ≡ place_of order n → IfSome o (λ place. slice_get order place ≡ Some n)
-place_is order n None e = tt
-place_is order n (Some i) e = place-get order n i (sym e)
+pub place_is : (ordering : List ℕ) (n : ℕ) (o : Option ℕ) → o ≡ place_of ordering n → IfSome o (λ place. slice_get ordering place ≡ Some n)
+place_is ordering n None e = tt
+place_is ordering n (Some i) e = place-get ordering n i (sym e)
 
 -- ---- pairs of taps
 abbrev Below : ℕ → TapPair → Type 0
@@ -63,86 +63,86 @@ all-append : (size : ℕ) (xs ys : List TapPair) → AllByRecursion (Below size)
 all-append size [] ys a b = b
 all-append size (x ∷ xs) ys a b = (a.0, all-append size xs ys a.1 b)
 
-module _ (s : ℕ) (order : List ℕ) where
-  tap_below : (t u : Tap) (p : PlacedTap) → tap_between s order t u ≡ Some p → p.place < length order
+module _ (s : ℕ) (ordering : List ℕ) where
+  tap_below : (t u : Tap) (p : PlacedTap) → tap_between s ordering t u ≡ Some p → p.place < length ordering
   tap_below t u p e =
-      let (place, e1, n1) = bind-some (place_of order t.node) _ p e in
+      let (place, e1, n1) = bind-some (place_of ordering t.node) _ p e in
       let (ratio, e2, e3) = bind-some (range_ends s t.ratio u.ratio) (λ r. Some (record { place = place; ratio = r })) p n1 in
       let is : record { place = place; ratio = ratio } ≡ p = cc in
-      subst (λ (q : PlacedTap). q.place < length order) is (place-below order t.node place e1)
+      subst (λ (q : PlacedTap). q.place < length ordering) is (place-below ordering t.node place e1)
 
-  taps_below : (ts us : List Tap) (placed : List PlacedTap) → taps_between s order ts us ≡ Some placed → AllByRecursion (λ p. p.place < length order) placed
-  taps_below [] us placed e = let is : [] ≡ placed = cc in subst (AllByRecursion (λ (p : PlacedTap). p.place < length order)) is tt
+  taps_below : (ts us : List Tap) (placed : List PlacedTap) → taps_between s ordering ts us ≡ Some placed → AllByRecursion (λ p. p.place < length ordering) placed
+  taps_below [] us placed e = let is : [] ≡ placed = cc in subst (AllByRecursion (λ (p : PlacedTap). p.place < length ordering)) is tt
   taps_below (t ∷ ts) [] placed e = absurd cc
   taps_below (t ∷ ts) (u ∷ us) placed e =
       let (tap, e1, n1) = bind-some _ _ placed e in
       let (taps, e2, e3) = bind-some _ _ placed n1 in
       let is : tap ∷ taps ≡ placed = cc in
-      subst (AllByRecursion (λ (p : PlacedTap). p.place < length order)) is (tap_below t u tap e1, taps_below ts us taps e2)
+      subst (AllByRecursion (λ (p : PlacedTap). p.place < length ordering)) is (tap_below t u tap e1, taps_below ts us taps e2)
 
-  pair_below : (t u : PlacedTap) (p : TapPair) → t.place < length order → u.place < length order → pair_between s t u ≡ Some p → Below (length order) p
+  pair_below : (t u : PlacedTap) (p : TapPair) → t.place < length ordering → u.place < length ordering → pair_between s t u ≡ Some p → Below (length ordering) p
   pair_below t u p h k e =
       let (factor, e1, e2) = bind-some (mul_ends s t.ratio u.ratio) (λ f. Some (record { row = t.place; column = u.place; factor = f })) p e in
       let is : record { row = t.place; column = u.place; factor = factor } ≡ p = cc in
-      subst (Below (length order)) is (h, k)
+      subst (Below (length ordering)) is (h, k)
 
-  row_below : (t : PlacedTap) (us : List PlacedTap) (pairs : List TapPair) → t.place < length order → AllByRecursion (λ p. p.place < length order) us → pairs_with s t us ≡ Some pairs → AllByRecursion (Below (length order)) pairs
-  row_below t [] pairs h a e = let is : [] ≡ pairs = cc in subst (AllByRecursion (Below (length order))) is tt
+  row_below : (t : PlacedTap) (us : List PlacedTap) (pairs : List TapPair) → t.place < length ordering → AllByRecursion (λ p. p.place < length ordering) us → pairs_with s t us ≡ Some pairs → AllByRecursion (Below (length ordering)) pairs
+  row_below t [] pairs h a e = let is : [] ≡ pairs = cc in subst (AllByRecursion (Below (length ordering))) is tt
   row_below t (u ∷ us) pairs h a e =
       let (pair, e1, n1) = bind-some _ _ pairs e in
       let (rest, e2, e3) = bind-some _ _ pairs n1 in
       let is : pair ∷ rest ≡ pairs = cc in
-      subst (AllByRecursion (Below (length order))) is (pair_below t u pair h a.0 e1, row_below t us rest h a.1 e2)
+      subst (AllByRecursion (Below (length ordering))) is (pair_below t u pair h a.0 e1, row_below t us rest h a.1 e2)
 
-  pairs_below : (ts us : List PlacedTap) (pairs : List TapPair) → AllByRecursion (λ p. p.place < length order) ts → AllByRecursion (λ p. p.place < length order) us → tap_pairs s ts us ≡ Some pairs → AllByRecursion (Below (length order)) pairs
-  pairs_below [] us pairs a b e = let is : [] ≡ pairs = cc in subst (AllByRecursion (Below (length order))) is tt
+  pairs_below : (ts us : List PlacedTap) (pairs : List TapPair) → AllByRecursion (λ p. p.place < length ordering) ts → AllByRecursion (λ p. p.place < length ordering) us → tap_pairs s ts us ≡ Some pairs → AllByRecursion (Below (length ordering)) pairs
+  pairs_below [] us pairs a b e = let is : [] ≡ pairs = cc in subst (AllByRecursion (Below (length ordering))) is tt
   pairs_below (t ∷ ts) us pairs a b e =
       let (row, e1, n1) = bind-some _ _ pairs e in
       let (rest, e2, e3) = bind-some _ _ pairs n1 in
       let is : row ++ rest ≡ pairs = cc in
-      subst (AllByRecursion (Below (length order))) is (all-append (length order) row rest (row_below t us row a.0 b e1) (pairs_below ts us rest a.1 b e2))
+      subst (AllByRecursion (Below (length ordering))) is (all-append (length ordering) row rest (row_below t us row a.0 b e1) (pairs_below ts us rest a.1 b e2))
 
-  addend_below : (a b : Branch) (law : LawEnds) (pairs : List TapPair) → addend_between s order a b ≡ Joined law pairs → AllByRecursion (Below (length order)) pairs
-  addend_below a b law pairs e = by_place (has_place order a.taps) e
+  addend_below : (a b : Branch) (law : LawEnds) (pairs : List TapPair) → addend_between s ordering a b ≡ Joined law pairs → AllByRecursion (Below (length ordering)) pairs
+  addend_below a b law pairs e = by_place (has_place ordering a.taps) e
     where
-      by_pairs : (l : LawEnds) (taps : List PlacedTap) → AllByRecursion (λ p. p.place < length order) taps → (o : Option (List TapPair)) → tap_pairs s taps taps ≡ o → joined (Some l) o ≡ Joined law pairs → AllByRecursion (Below (length order)) pairs
+      by_pairs : (l : LawEnds) (taps : List PlacedTap) → AllByRecursion (λ p. p.place < length ordering) taps → (o : Option (List TapPair)) → tap_pairs s taps taps ≡ o → joined (Some l) o ≡ Joined law pairs → AllByRecursion (Below (length ordering)) pairs
       by_pairs l taps h None k q = absurd cc
-      by_pairs l taps h (Some ps) k q = let is : ps ≡ pairs = cc in subst (AllByRecursion (Below (length order))) is (pairs_below taps taps ps h h k)
+      by_pairs l taps h (Some ps) k q = let is : ps ≡ pairs = cc in subst (AllByRecursion (Below (length ordering))) is (pairs_below taps taps ps h h k)
 
-      by_taps : (l : LawEnds) (o : Option (List PlacedTap)) → taps_between s order a.taps b.taps ≡ o → joined (Some l) (o >>= (λ taps. tap_pairs s taps taps)) ≡ Joined law pairs → AllByRecursion (Below (length order)) pairs
+      by_taps : (l : LawEnds) (o : Option (List PlacedTap)) → taps_between s ordering a.taps b.taps ≡ o → joined (Some l) (o >>= (λ taps. tap_pairs s taps taps)) ≡ Joined law pairs → AllByRecursion (Below (length ordering)) pairs
       by_taps l None k q = absurd cc
       by_taps l (Some taps) k q = by_pairs l taps (taps_below a.taps b.taps taps k) (tap_pairs s taps taps) refl q
 
-      by_law : (o : Option LawEnds) → joined o (taps_between s order a.taps b.taps >>= (λ taps. tap_pairs s taps taps)) ≡ Joined law pairs → AllByRecursion (Below (length order)) pairs
+      by_law : (o : Option LawEnds) → joined o (taps_between s ordering a.taps b.taps >>= (λ taps. tap_pairs s taps taps)) ≡ Joined law pairs → AllByRecursion (Below (length ordering)) pairs
       by_law None q = absurd cc
-      by_law (Some l) q = by_taps l (taps_between s order a.taps b.taps) refl q
+      by_law (Some l) q = by_taps l (taps_between s ordering a.taps b.taps) refl q
 
-      by_place : (t : Bool) → (if t then joined (law_between s a.law b.law) (taps_between s order a.taps b.taps >>= (λ taps. tap_pairs s taps taps)) else Dead) ≡ Joined law pairs → AllByRecursion (Below (length order)) pairs
+      by_place : (t : Bool) → (if t then joined (law_between s a.law b.law) (taps_between s ordering a.taps b.taps >>= (λ taps. tap_pairs s taps taps)) else Dead) ≡ Joined law pairs → AllByRecursion (Below (length ordering)) pairs
       by_place true q = by_law (law_between s a.law b.law) q
       by_place false q = absurd cc
 
   module _ {E : Type 0} (ends : E → Ends) where
-    items_below : (ps : List (TapProduct E)) → AllByRecursion (Below (length order)) (map (pair_ends ends) ps) → (k : ℕ) (d : TapProduct E) → k < length ps → (get_or ps k d).row < length order × (get_or ps k d).column < length order
+    items_below : (ps : List (TapProduct E)) → AllByRecursion (Below (length ordering)) (map (pair_ends ends) ps) → (k : ℕ) (d : TapProduct E) → k < length ps → (get_or ps k d).row < length ordering × (get_or ps k d).column < length ordering
     items_below [] h k d l = absurd (omega arith)
     items_below (p ∷ ps) h zero d l = h.0
     items_below (p ∷ ps) h (suc k) d l = items_below ps h.1 k d (omega arith)
 
-    branch_within : (a b : Branch) (x : BranchIntervals E) → addend_of ends x ≡ addend_between s order a b → IsWithin (length order) x
+    branch_within : (a b : Branch) (x : BranchIntervals E) → addend_of ends x ≡ addend_between s ordering a b → IsWithin (length ordering) x
     branch_within a b DeadIntervals e = tt
     branch_within a b AbsentIntervals e = tt
     branch_within a b (JoinedIntervals law pairs) e = items_below pairs.items (addend_below a b _ _ (sym e))
 
     -- the pairs of each branch have places in the matrix
-    pub branches_within : (ls hs : List Branch) (xs : List (BranchIntervals E)) → map (addend_of ends) xs ≡ addends_between s order ls hs → (k : ℕ) (d : BranchIntervals E) → k < length xs → IsWithin (length order) (get_or xs k d)
+    pub branches_within : (ls hs : List Branch) (xs : List (BranchIntervals E)) → map (addend_of ends) xs ≡ addends_between s ordering ls hs → (k : ℕ) (d : BranchIntervals E) → k < length xs → IsWithin (length ordering) (get_or xs k d)
     branches_within ls hs [] e k d l = absurd (omega arith)
     branches_within [] hs (x ∷ xs) e k d l = absurd cc
     branches_within (a ∷ ls) [] (x ∷ xs) e k d l = absurd cc
-    branches_within (a ∷ ls) (b ∷ hs) (x ∷ xs) e zero d l = let first : addend_of ends x ≡ addend_between s order a b = cc in branch_within a b x first
-    branches_within (a ∷ ls) (b ∷ hs) (x ∷ xs) e (suc k) d l = let rest : map (addend_of ends) xs ≡ addends_between s order ls hs = cc in branches_within ls hs xs rest k d (omega arith)
+    branches_within (a ∷ ls) (b ∷ hs) (x ∷ xs) e zero d l = let first : addend_of ends x ≡ addend_between s ordering a b = cc in branch_within a b x first
+    branches_within (a ∷ ls) (b ∷ hs) (x ∷ xs) e (suc k) d l = let rest : map (addend_of ends) xs ≡ addends_between s ordering ls hs = cc in branches_within ls hs xs rest k d (omega arith)
 
     -- and there are as many as in the networks
-    pub branches_count : (ls hs : List Branch) (xs : List (BranchIntervals E)) → map (addend_of ends) xs ≡ addends_between s order ls hs → length xs ≤ length ls
+    pub branches_count : (ls hs : List Branch) (xs : List (BranchIntervals E)) → map (addend_of ends) xs ≡ addends_between s ordering ls hs → length xs ≤ length ls
     branches_count ls hs [] e = omega arith
     branches_count [] hs (x ∷ xs) e = absurd cc
     branches_count (a ∷ ls) [] (x ∷ xs) e = absurd cc
-    branches_count (a ∷ ls) (b ∷ hs) (x ∷ xs) e = let rest : map (addend_of ends) xs ≡ addends_between s order ls hs = cc in let more = branches_count ls hs xs rest in omega arith
+    branches_count (a ∷ ls) (b ∷ hs) (x ∷ xs) e = let rest : map (addend_of ends) xs ≡ addends_between s ordering ls hs = cc in let more = branches_count ls hs xs rest in omega arith

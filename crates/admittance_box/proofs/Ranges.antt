@@ -70,11 +70,11 @@ pub box_ordered : (lo hi : ℕ) → lo ≤ hi → over (pos lo) 1000000 ≼ over
 unfolding den
 box_ordered lo hi h = record { cross = omega (arith, ints) }
 
--- the scaled order of a box is at most 100·2^48
-scaled_small : (s n : ℕ) → s ≤ 48 → n ≤ 100000000 → n * 2 ^ s ≤ 2 ^ 62 * 1000000
+-- the scaled order of a box is below 2^32·2^48
+scaled_small : (s n : ℕ) → s ≤ 48 → n < 2 ^ 32 → n * 2 ^ s ≤ 2 ^ 62 * 1000000
 scaled_small s n h k = let more = mul-le-mul_left n (unit_small s h) in omega arith
 
-pub order_ends-is : (s lo hi : ℕ) → s ≤ 48 → lo ≤ hi → hi ≤ 100000000 → range_ends s (over (pos lo) 1000000) (over (pos hi) 1000000) ≡ Some (order_ends s lo hi)
+pub order_ends-is : (s lo hi : ℕ) → s ≤ 48 → lo ≤ hi → hi < 2 ^ 32 → range_ends s (over (pos lo) 1000000) (over (pos hi) 1000000) ≡ Some (order_ends s lo hi)
 order_ends-is s lo hi h o k =
     let low = floor_div (pos (lo * 2 ^ s)) 1000000 in
     let high = ceil_div (pos (hi * 2 ^ s)) 1000000 in
@@ -88,14 +88,12 @@ order_ends-is s lo hi h o k =
     let high_to : high ≤ℤ pos (2 ^ 62) = ceil_div_least (pos (2 ^ 62)) (pos (hi * 2 ^ s)) 1000000 (omega arith) (omega (arith, ints)) in
     in_range-small low high low_from low_to high_from high_to
 
--- from a scale of 4 on, the low end is above 0
-pub order_low_above : (s lo hi : ℕ) → 4 ≤ s → 100000 ≤ lo → pos 0 <ℤ (order_ends s lo hi).low
-order_low_above s lo hi h k =
-    let unit : 2 ^ 4 ≤ 2 ^ s = pow-le-pow_right (omega arith) h in
-    let more = mul-le-mul_left lo unit in
+-- the low end of an order of one unit or more is above 0
+pub order_low_above : (s lo hi : ℕ) → 10 ^ 6 ≤ lo * 2 ^ s → pos 0 <ℤ (order_ends s lo hi).low
+order_low_above s lo hi h =
     let one = floor_div_greatest (pos 1) (pos (lo * 2 ^ s)) 1000000 (omega arith) (omega (arith, ints)) in
     omega (arith, ints)
 
 -- the range that the two fractions of a box have
-pub order_range-is : (s lo hi : ℕ) (a b : Ratio) → s ≤ 48 → lo ≤ hi → hi ≤ 100000000 → a ≡ over (pos lo) 1000000 → b ≡ over (pos hi) 1000000 → range_ends s a b ≡ Some (order_ends s lo hi)
+pub order_range-is : (s lo hi : ℕ) (a b : Ratio) → s ≤ 48 → lo ≤ hi → hi < 2 ^ 32 → a ≡ over (pos lo) 1000000 → b ≡ over (pos hi) 1000000 → range_ends s a b ≡ Some (order_ends s lo hi)
 order_range-is s lo hi a b h o k p q = ap₂ (range_ends s) p q ∙ order_ends-is s lo hi h o k

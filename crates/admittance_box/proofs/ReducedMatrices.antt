@@ -12,16 +12,16 @@ use Rattle.admittance_box.specs.HeldMatrix.{HoldsNodal, HoldsReduced, ReducedMat
 use Rattle.admittance_box.proofs.HeldMatrices.{box_matrix_holds}
 
 -- a value of the reduction of boxes that hold the nodal matrix
-pub reduced_of : (s : ℕ) (network : Network) (h : Order) (driven : ℕ) (order : List ℕ) (boxes : List (List Box)) (value : Box) → HoldsNodal s network h driven order boxes → reduce_boxes s boxes ≡ Ok value → HoldsReduced s network h driven value
-reduced_of s network h driven order boxes value has r =
-    let square : IsSquare complex_numbers (suc has.n) has.rows = subst (λ k. IsSquare complex_numbers k has.rows) has.last.count (nodal_square network h has.parts order has.rows has.system) in
+pub reduced_of : (s : ℕ) (network : Network) (h : Order) (driven : ℕ) (ordering : List ℕ) (boxes : List (List Box)) (value : Box) → HoldsNodal s network h driven ordering boxes → reduce_boxes s boxes ≡ Ok value → HoldsReduced s network h driven value
+reduced_of s network h driven ordering boxes value has r =
+    let square : IsSquare complex_numbers (suc has.n) has.rows = subst (λ k. IsSquare complex_numbers k has.rows) has.last.count (nodal_square network h has.parts ordering has.rows has.system) in
     let reduced = reduction_holds s has.n boxes value has.rows r square has.held in
     record {
       y = reduced.y;
-      reduced = record { parts = has.parts; order = order; rows = has.rows; n = has.n; system = has.system; last = has.last; value = reduced.each };
+      reduced = record { parts = has.parts; ordering = ordering; rows = has.rows; n = has.n; system = has.system; last = has.last; value = reduced.each };
       held = reduced.held;
     }
 
 pub reduced_matrix_holds : (s : ℕ) → ReducedMatrixHolds s
-reduced_matrix_holds s low high driven order can lo hi boxes value e r h i lies network between =
-    reduced_of s network h driven order boxes value (box_matrix_holds s low high driven order can lo hi boxes e h i lies network between) r
+reduced_matrix_holds s low high driven ordering can lo hi boxes value e r h i lies network between =
+    reduced_of s network h driven ordering boxes value (box_matrix_holds s low high driven ordering can lo hi boxes e h i lies network between) r

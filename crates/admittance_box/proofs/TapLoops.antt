@@ -36,13 +36,13 @@ pub one_more : {X : Type 0} (before : List X) (x : X) (rest : Option (List X)) �
 one_more before x None = refl
 one_more before x (Some more) = ap Some (sym (append_assoc before (x ∷ []) more))
 
-module _ (s : ℕ) (order : List ℕ) (low high : List Tap) (i : ℕ) (t u : Tap) (low_in : i < length low) (low_at : t ≡ get_or low i t) (high_in : i < length high) (high_at : u ≡ get_or high i u) where
-  rest_of : taps_between s order (map exact_tap (drop i low)) (map exact_tap (drop i high)) ≡ (tap_between s order (exact_tap t) (exact_tap u) >>= (λ tap. taps_between s order (map exact_tap (drop (i + 1) low)) (map exact_tap (drop (i + 1) high)) >>= (λ taps. Some (tap ∷ taps))))
+module _ (s : ℕ) (ordering : List ℕ) (low high : List Tap) (i : ℕ) (t u : Tap) (low_in : i < length low) (low_at : t ≡ get_or low i t) (high_in : i < length high) (high_at : u ≡ get_or high i u) where
+  rest_of : taps_between s ordering (map exact_tap (drop i low)) (map exact_tap (drop i high)) ≡ (tap_between s ordering (exact_tap t) (exact_tap u) >>= (λ tap. taps_between s ordering (map exact_tap (drop (i + 1) low)) (map exact_tap (drop (i + 1) high)) >>= (λ taps. Some (tap ∷ taps))))
   rest_of = rw (drop_item low i t low_in low_at, drop_item high i u high_in high_at) refl
 
-  pub taps_more : {X : Type 0} (f : X → PlacedTap) (items after : List X) (x : X) (whole : Option (List PlacedTap)) → after ≡ items ++ x ∷ [] → Some (f x) ≡ tap_between s order (exact_tap t) (exact_tap u)
-      → whole ≡ option_map (λ more. map f items ++ more) (taps_between s order (map exact_tap (drop i low)) (map exact_tap (drop i high)))
-      → whole ≡ option_map (λ more. map f after ++ more) (taps_between s order (map exact_tap (drop (i + 1) low)) (map exact_tap (drop (i + 1) high)))
-  taps_more f items after x whole e k h = h ∙ ap (option_map (λ more. map f items ++ more)) (rest_of ∙ ap (λ o. o >>= (λ tap. taps_between s order (map exact_tap (drop (i + 1) low)) (map exact_tap (drop (i + 1) high)) >>= (λ taps. Some (tap ∷ taps)))) (sym k))
-      ∙ one_more (map f items) (f x) (taps_between s order (map exact_tap (drop (i + 1) low)) (map exact_tap (drop (i + 1) high)))
-      ∙ ap (λ l. option_map (λ more. l ++ more) (taps_between s order (map exact_tap (drop (i + 1) low)) (map exact_tap (drop (i + 1) high)))) (sym (ap (map f) e ∙ map-append_one f items x))
+  pub taps_more : {X : Type 0} (f : X → PlacedTap) (items after : List X) (x : X) (whole : Option (List PlacedTap)) → after ≡ items ++ x ∷ [] → Some (f x) ≡ tap_between s ordering (exact_tap t) (exact_tap u)
+      → whole ≡ option_map (λ more. map f items ++ more) (taps_between s ordering (map exact_tap (drop i low)) (map exact_tap (drop i high)))
+      → whole ≡ option_map (λ more. map f after ++ more) (taps_between s ordering (map exact_tap (drop (i + 1) low)) (map exact_tap (drop (i + 1) high)))
+  taps_more f items after x whole e k h = h ∙ ap (option_map (λ more. map f items ++ more)) (rest_of ∙ ap (λ o. o >>= (λ tap. taps_between s ordering (map exact_tap (drop (i + 1) low)) (map exact_tap (drop (i + 1) high)) >>= (λ taps. Some (tap ∷ taps)))) (sym k))
+      ∙ one_more (map f items) (f x) (taps_between s ordering (map exact_tap (drop (i + 1) low)) (map exact_tap (drop (i + 1) high)))
+      ∙ ap (λ l. option_map (λ more. l ++ more) (taps_between s ordering (map exact_tap (drop (i + 1) low)) (map exact_tap (drop (i + 1) high)))) (sym (ap (map f) e ∙ map-append_one f items x))

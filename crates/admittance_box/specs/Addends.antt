@@ -37,18 +37,18 @@ law_between s (Shunt b) (Shunt b') = option_map OfShunt (range_ends s b b')
 law_between s _ _ = None
 
 abbrev pub tap_between : ℕ → List ℕ → Tap → Tap → Option PlacedTap
-tap_between s order t u = do
-  place ← place_of order t.node
+tap_between s ordering t u = do
+  place ← place_of ordering t.node
   ratio ← range_ends s t.ratio u.ratio
   Some (record { place = place; ratio = ratio })
 
 -- the taps of a branch, from one network to the other
 abbrev pub taps_between : ℕ → List ℕ → List Tap → List Tap → Option (List PlacedTap)
-taps_between s order [] us = Some []
-taps_between s order (t ∷ ts) [] = None
-taps_between s order (t ∷ ts) (u ∷ us) = do
-  tap ← tap_between s order t u
-  taps ← taps_between s order ts us
+taps_between s ordering [] us = Some []
+taps_between s ordering (t ∷ ts) [] = None
+taps_between s ordering (t ∷ ts) (u ∷ us) = do
+  tap ← tap_between s ordering t u
+  taps ← taps_between s ordering ts us
   Some (tap ∷ taps)
 
 -- the pair of two taps
@@ -75,8 +75,8 @@ tap_pairs s (t ∷ ts) us = do
 
 -- some tap's node has a place, which live nodes have
 abbrev pub has_place : List ℕ → List Tap → Bool
-has_place order [] = false
-has_place order (t ∷ taps) = is_some (place_of order t.node) || has_place order taps
+has_place ordering [] = false
+has_place ordering (t ∷ taps) = is_some (place_of ordering t.node) || has_place ordering taps
 
 abbrev pub joined : Option LawEnds → Option (List TapPair) → Addend
 joined (Some law) (Some pairs) = Joined law pairs
@@ -85,10 +85,10 @@ joined None pairs = Absent
 
 -- what a branch adds, from one network to the other
 abbrev pub addend_between : ℕ → List ℕ → Branch → Branch → Addend
-addend_between s order a b = if has_place order a.taps then joined (law_between s a.law b.law) (taps_between s order a.taps b.taps >>= (λ taps. tap_pairs s taps taps)) else Dead
+addend_between s ordering a b = if has_place ordering a.taps then joined (law_between s a.law b.law) (taps_between s ordering a.taps b.taps >>= (λ taps. tap_pairs s taps taps)) else Dead
 
 -- what each branch adds
 abbrev pub addends_between : ℕ → List ℕ → List Branch → List Branch → List Addend
-addends_between s order [] bs = []
-addends_between s order (a ∷ rest) [] = []
-addends_between s order (a ∷ rest) (b ∷ bs) = addend_between s order a b ∷ addends_between s order rest bs
+addends_between s ordering [] bs = []
+addends_between s ordering (a ∷ rest) [] = []
+addends_between s ordering (a ∷ rest) (b ∷ bs) = addend_between s ordering a b ∷ addends_between s ordering rest bs

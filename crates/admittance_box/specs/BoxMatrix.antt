@@ -47,6 +47,6 @@ with_addends s h i (a ∷ addends) rows = or_branch i (with_addend s h a rows) (
 abbrev pub nought_rows : ℕ → List (List Box)
 nought_rows n = replicate n (replicate n nought_box)
 
--- the matrix of a pair of networks over the orders from lo to hi, in micro-orders, with the nodes in this order; or the first branch, counted from 0, at which it has no value
+-- the matrix of a pair of networks over the orders from lo to hi, in micro-orders, with the nodes in this ordering; or the first branch, counted from 0, at which it has no value
 unfoldable pub box_matrix : ℕ → Network → Network → List ℕ → ℕ → ℕ → Result (List (List Box)) ℕ
-box_matrix s low high order lo hi = with_addends s (order_ends s lo hi) 0 (addends_between s order low.branches high.branches) (nought_rows (length order))
+box_matrix s low high ordering lo hi = with_addends s (order_ends s lo hi) 0 (addends_between s ordering low.branches high.branches) (nought_rows (length ordering))

@@ -14,38 +14,38 @@ use Rattle.network_theory.specs.Reduced.{IsReducedTo}
 use Rattle.plain_elimination.specs.Elimination.{HoldsRows}
 use Rattle.plain_elimination.specs.Rectangles.{reduce_boxes}
 use Rattle.admittance_box.specs.BoxMatrix.{box_matrix}
-use Rattle.admittance_box.specs.Places.{IsNodeOrder}
+use Rattle.admittance_box.specs.Places.{IsNodeOrdering}
 
 -- no branch belongs to a group of three, which the assembly can't take yet
 abbrev pub HasNoGroup : Network → Type 0
 HasNoGroup network = AllByRecursion IsUncoupled network.branches
 
--- a pair of networks and a live node with its node order, for which the assembly is meant
-pub record CanAssemble (low high : Network) (driven : ℕ) (order : List ℕ) : Type 0 where
+-- a pair of networks and a live node with its node ordering, for which the assembly is meant
+pub record CanAssemble (low high : Network) (driven : ℕ) (ordering : List ℕ) : Type 0 where
   pub pair : IsPair low high
   pub no_group : HasNoGroup low
   pub driven_is_live : Live low driven
-  pub ordered : IsNodeOrder low driven order
+  pub ordered : IsNodeOrdering low driven ordering
 
 -- each branch with a live node has an admittance at order h, and the boxes hold the sums of them, the entries of the nodal matrix with the driven node last
-pub record HoldsNodal (s : ℕ) (network : Network) (h : Order) (driven : ℕ) (order : List ℕ) (boxes : List (List ComplexBox)) : Type 0 where
+pub record HoldsNodal (s : ℕ) (network : Network) (h : Order) (driven : ℕ) (ordering : List ℕ) (boxes : List (List ComplexBox)) : Type 0 where
   pub parts : List Part
   pub rows : List (List Complex)
   pub n : ℕ
-  pub system : IsNodalSystem network h parts order rows
-  pub last : IsLast order n driven
+  pub system : IsNodalSystem network h parts ordering rows
+  pub last : IsLast ordering n driven
   pub held : HoldsRows (EnclosesComplex s) boxes rows
 
 -- so at every order of the box, for every network between the two
 abbrev pub HoldsEach : ℕ → Network → Network → ℕ → List ℕ → ℕ → ℕ → List (List ComplexBox) → Type 0
-HoldsEach s low high driven order lo hi boxes =
-    (h : Order) → IsOrder h → LiesIn h (record { lo = lo; hi = hi }) → (network : Network) → LiesBetween network low high → HoldsNodal s network h driven order boxes
+HoldsEach s low high driven ordering lo hi boxes =
+    (h : Order) → IsOrder h → LiesIn h (record { lo = lo; hi = hi }) → (network : Network) → LiesBetween network low high → HoldsNodal s network h driven ordering boxes
 
 -- the matrix of a box, where it has a value, holds the exact one at every order of the box, for every network between the two
 abbrev pub BoxMatrixHolds : ℕ → Type 0
 BoxMatrixHolds s =
-    (low high : Network) (driven : ℕ) (order : List ℕ) → CanAssemble low high driven order
-    → (lo hi : ℕ) (boxes : List (List ComplexBox)) → box_matrix s low high order lo hi ≡ Ok boxes → HoldsEach s low high driven order lo hi boxes
+    (low high : Network) (driven : ℕ) (ordering : List ℕ) → CanAssemble low high driven ordering
+    → (lo hi : ℕ) (boxes : List (List ComplexBox)) → box_matrix s low high ordering lo hi ≡ Ok boxes → HoldsEach s low high driven ordering lo hi boxes
 
 -- the reduced value y of the nodal matrix with the driven node last, which the box holds
 pub record HoldsReduced (s : ℕ) (network : Network) (h : Order) (driven : ℕ) (value : ComplexBox) : Type 0 where
@@ -56,6 +56,6 @@ pub record HoldsReduced (s : ℕ) (network : Network) (h : Order) (driven : ℕ)
 -- a value of the reduction of a box's matrix holds the exact reduced value at every order of the box, for every network between the two
 abbrev pub ReducedMatrixHolds : ℕ → Type 0
 ReducedMatrixHolds s =
-    (low high : Network) (driven : ℕ) (order : List ℕ) → CanAssemble low high driven order
-    → (lo hi : ℕ) (boxes : List (List ComplexBox)) (value : ComplexBox) → box_matrix s low high order lo hi ≡ Ok boxes → reduce_boxes s boxes ≡ Ok value
+    (low high : Network) (driven : ℕ) (ordering : List ℕ) → CanAssemble low high driven ordering
+    → (lo hi : ℕ) (boxes : List (List ComplexBox)) (value : ComplexBox) → box_matrix s low high ordering lo hi ≡ Ok boxes → reduce_boxes s boxes ≡ Ok value
     → (h : Order) → IsOrder h → LiesIn h (record { lo = lo; hi = hi }) → (network : Network) → LiesBetween network low high → HoldsReduced s network h driven value

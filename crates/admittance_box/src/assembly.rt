@@ -16,7 +16,7 @@ use crate::branches::branches_between;
 use crate::copies::copy_of;
 use crate::fill::{Fill, add_branches};
 use crate::intervals::BranchIntervals;
-use crate::node_order::order_nodes;
+use crate::node_ordering::order_nodes;
 use crate::orders::order_range;
 use crate::taps::find_place;
 use complex_interval::Enclosure;
@@ -26,13 +26,13 @@ use std::alloc::{AllocError, Global};
 use std::marker::Model;
 
 /// The assembly of the matrices of a pair of networks and a driven node. Contracts see the pair, the
-/// driven node and the node order, which the network's live nodes determine.
+/// driven node and the node ordering, which the network's live nodes determine.
 #[derive(Drop)]
 pub struct Assembly<E: Enclosure> {
     low: Network,
     high: Network,
     driven: u32,
-    order: Vec<u32>,
+    ordering: Vec<u32>,
     branches: Vec<BranchIntervals<E>>,
 }
 
@@ -44,9 +44,9 @@ impl<E: Enclosure> Model for Assembly<E> {
 
     ghost Value = { Assembled };
 
-    ghost view = { λ a. record { low = exact_network a.low; high = exact_network a.high; driven = a.driven; order = a.order.items } };
+    ghost view = { λ a. record { low = exact_network a.low; high = exact_network a.high; driven = a.driven; ordering = a.ordering.items } };
 
-    ghost invariant = { λ a. IsKept E.SCALE (record { low = exact_network a.low; high = exact_network a.high; driven = a.driven; order = a.order.items }) (map (addend_of E.ends) a.branches.items) };
+    ghost invariant = { λ a. IsKept E.SCALE (record { low = exact_network a.low; high = exact_network a.high; driven = a.driven; ordering = a.ordering.items }) (map (addend_of E.ends) a.branches.items) };
 }
 
 impl<E: Enclosure> Assembly<E> {
@@ -66,15 +66,15 @@ impl<E: Enclosure> Assembly<E> {
         ensures { IfOk result (λ a. IsMade (exact_network low.now) (exact_network high.now) driven.number a) }
     {
         let marks = live(alloc, low)?;
-        let order = order_nodes(alloc, low, marks.as_slice(), driven.number)?;
+        let ordering = order_nodes(alloc, low, marks.as_slice(), driven.number)?;
         let low_branches = low.branches.as_slice();
         let high_branches = high.branches.as_slice();
-        let branches = branches_between(alloc, order.as_slice(), low_branches, high_branches)?;
+        let branches = branches_between(alloc, ordering.as_slice(), low_branches, high_branches)?;
         Ok(Assembly {
             low: copy_of(alloc, low)?,
             high: copy_of(alloc, high)?,
             driven: driven.number,
-            order,
+            ordering,
             branches,
         })
     }
@@ -91,19 +91,19 @@ impl<E: Enclosure> Assembly<E> {
 
     /// The number of live nodes.
     pub fn size(&self) -> u32
-        ensures count { result ≡ length self.now.order }
+        ensures count { result ≡ length self.now.ordering }
         ensures few { result ≤ MAX_NODES }
-        ensures live { ListsLive self.now.low self.now.order }
+        ensures live { ListsLive self.now.low self.now.ordering }
     {
-        self.order.len() as u32
+        self.ordering.len() as u32
     }
 
     /// The place of a node in the matrix, counted from 0. None exactly where the node isn't live.
     pub fn position(&self, node: NodeId) -> Option<u32>
         ensures live { IsSome result ↔ Live self.now.low node.number }
-        ensures place { IfSome result (λ place. slice_get self.now.order place ≡ Some node.number) }
+        ensures place { IfSome result (λ place. slice_get self.now.ordering place ≡ Some node.number) }
     {
-        find_place(self.order.as_slice(), node.number)
+        find_place(self.ordering.as_slice(), node.number)
     }
 
     /// Fills the matrix over the orders from `lo` to `hi`, in micro-orders: the nodal matrix in per
@@ -111,12 +111,10 @@ impl<E: Enclosure> Assembly<E> {
     /// it has no value, with the first branch at which it has none, counted from 0; the entries are then
     /// unspecified. It takes no memory.
     pub fn fill(&mut self, lo: u32, hi: u32, matrix: &mut Matrix<E>) -> Fill
-        requires lowest { 100000 ≤ lo }
         requires ordered { lo ≤ hi }
-        requires highest { hi ≤ 100000000 }
-        requires size { matrix.old.size ≡ length self.old.order }
-        ensures stated { FillsAs result matrix.new.rows (box_matrix E.SCALE self.old.low self.old.high self.old.order lo hi) }
-        ensures holds { result ≡ Filled → HoldsEach E.SCALE self.old.low self.old.high self.old.driven self.old.order lo hi matrix.new.rows }
+        requires size { matrix.old.size ≡ length self.old.ordering }
+        ensures stated { FillsAs result matrix.new.rows (box_matrix E.SCALE self.old.low self.old.high self.old.ordering lo hi) }
+        ensures holds { result ≡ Filled → HoldsEach E.SCALE self.old.low self.old.high self.old.driven self.old.ordering lo hi matrix.new.rows }
         ensures size { matrix.new.size ≡ matrix.old.size }
         ensures unchanged { self.new ≡ self.old }
     {

@@ -5,6 +5,7 @@ ghost use Rattle.network_theory.specs.Between.{BranchUpTo};
 ghost use Rattle.net_branch.specs.Exact.{exact_branch};
 ghost use Rattle.admittance_box.specs.Addends.{addend_between, addends_between};
 ghost use Rattle.admittance_box.specs.Intervals.{addend_of};
+ghost use Rattle.plain_elimination.specs.declared.limits.TheConstants.{MAX_SIZE};
 
 use crate::intervals::{BranchIntervals, LawIntervals};
 use crate::taps::{any_place, placed_taps, products};
@@ -15,22 +16,22 @@ use std::alloc::{AllocError, Global};
 // What a branch adds, from `low` to `high`.
 fn branch_between<E: Enclosure>(
     alloc: Global,
-    order: &[u32],
+    ordering: &[u32],
     low: &Branch,
     high: &Branch,
 ) -> Result<BranchIntervals<E>, AllocError>
-    requires few { length order.now ≤ 4096 }
+    requires few { length ordering.now ≤ MAX_SIZE }
     requires ordered { BranchUpTo (exact_branch low.now) (exact_branch high.now) }
-    ensures { IfOk result (λ b. addend_of E.ends b ≡ addend_between E.SCALE order.now (exact_branch low.now) (exact_branch high.now)) }
+    ensures { IfOk result (λ b. addend_of E.ends b ≡ addend_between E.SCALE ordering.now (exact_branch low.now) (exact_branch high.now)) }
 {
     let low_taps = low.taps.as_slice();
-    if !any_place(order, low_taps) {
+    if !any_place(ordering, low_taps) {
         return Ok(BranchIntervals::Dead);
     }
     let Some(law) = LawIntervals::between(low.law, high.law) else {
         return Ok(BranchIntervals::Absent);
     };
-    let Some(taps) = placed_taps(alloc, order, low_taps, high.taps.as_slice())? else {
+    let Some(taps) = placed_taps(alloc, ordering, low_taps, high.taps.as_slice())? else {
         return Ok(BranchIntervals::Absent);
     };
     let Some(pairs) = products(alloc, taps.as_slice())? else {
@@ -42,18 +43,18 @@ fn branch_between<E: Enclosure>(
 /// What each branch adds, from those of `low` to those of `high`.
 pub fn branches_between<E: Enclosure>(
     alloc: Global,
-    order: &[u32],
+    ordering: &[u32],
     low: &[Branch],
     high: &[Branch],
 ) -> Result<Vec<BranchIntervals<E>>, AllocError>
-    requires few { length order.now ≤ 4096 }
+    requires few { length ordering.now ≤ MAX_SIZE }
     requires ordered { AllZip BranchUpTo (map exact_branch low.now) (map exact_branch high.now) }
     ensures { IfOk result (λ branches. map (addend_of E.ends) branches.items
-        ≡ addends_between E.SCALE order.now (map exact_branch low.now) (map exact_branch high.now)) }
+        ≡ addends_between E.SCALE ordering.now (map exact_branch low.now) (map exact_branch high.now)) }
 {
     let mut branches = Vec::new(alloc);
     for i in 0..low.len() {
-        let branch = branch_between(alloc, order, &low[i], &high[i])?;
+        let branch = branch_between(alloc, ordering, &low[i], &high[i])?;
         branches.push(branch)?;
     }
     Ok(branches)

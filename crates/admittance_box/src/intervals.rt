@@ -20,7 +20,7 @@ pub enum LawIntervals<E> {
     Shunt(E),
 }
 
-/// A tap by the place of its node in the node order and the interval of its ratio.
+/// A tap by the place of its node in the node ordering and the interval of its ratio.
 #[derive(Clone, Copy)]
 pub struct PlacedTap<E> {
     pub place: u32,

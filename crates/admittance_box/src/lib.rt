@@ -8,7 +8,7 @@ mod exact;
 mod fill;
 mod intervals;
 mod nodal_laws;
-mod node_order;
+mod node_ordering;
 mod orders;
 mod series;
 mod shunt;

@@ -1,5 +1,5 @@
 // The interval of the orders of a box.
-ghost use Rattle.std.specs.Prelude.{◌≡◌, ◌≤◌, ◌<ℤ◌, pos};
+ghost use Rattle.std.specs.Prelude.{◌≡◌, ◌*◌, ◌^◌, ◌≤◌, ◌<ℤ◌, pos};
 ghost use Rattle.exact_algebra.specs.Ratio.{over};
 ghost use Rattle.exact_fraction.specs.Fraction.{ratio_of};
 ghost use Rattle.admittance_box.specs.Orders.{order_ends, HoldsOrders};
@@ -9,12 +9,10 @@ use exact_fraction::Fraction;
 
 /// The interval of the harmonic orders from `lo` to `hi`, both in micro-orders.
 pub fn order_range<E: Enclosure>(lo: u32, hi: u32) -> E
-    requires lowest { 100000 ≤ lo }
     requires ordered { lo ≤ hi }
-    requires highest { hi ≤ 100000000 }
     ensures value { E.ends result ≡ order_ends E.SCALE lo hi }
     ensures holds { HoldsOrders E.SCALE lo hi (E.ends result) }
-    ensures above { 4 ≤ E.SCALE → pos 0 <ℤ (E.ends result).low }
+    ensures above { 10 ^ 6 ≤ lo * 2 ^ E.SCALE → pos 0 <ℤ (E.ends result).low }
 {
     E::from_range(order_of(lo), order_of(hi)).unwrap()
 }

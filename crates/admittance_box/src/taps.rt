@@ -1,4 +1,4 @@
-// The taps of a branch, with their places in the node order and the products of their ratios.
+// The taps of a branch, with their places in the node ordering and the products of their ratios.
 ghost use Rattle.std.specs.Prelude.{◌≡◌, ◌+◌, ◌<◌, ◌≤◌, ◌++◌, IfOk, length, map};
 ghost use Rattle.std.specs.List.{AllZip};
 ghost use Rattle.std.specs.Option.{option_map};
@@ -7,18 +7,19 @@ ghost use Rattle.net_branch.specs.Exact.{exact_tap};
 ghost use Rattle.admittance_box.specs.Addends.{tap_between, taps_between, pair_between, pairs_with, tap_pairs, has_place};
 ghost use Rattle.admittance_box.specs.Intervals.{placed_ends, pair_ends};
 ghost use Rattle.admittance_box.specs.Places.{place_of};
+ghost use Rattle.plain_elimination.specs.declared.limits.TheConstants.{MAX_SIZE};
 
 use crate::intervals::{PlacedTap, TapProduct};
 use complex_interval::Enclosure;
 use net_branch::Tap;
 use std::alloc::{AllocError, Global};
 
-/// The place of a node in the order, if it has one.
-pub fn find_place(order: &[u32], node: u32) -> Option<u32>
-    requires { length order.now ≤ 4096 }
-    ensures { result ≡ place_of order.now node }
+/// The place of a node in the ordering, if it has one.
+pub fn find_place(ordering: &[u32], node: u32) -> Option<u32>
+    requires { length ordering.now ≤ MAX_SIZE }
+    ensures { result ≡ place_of ordering.now node }
 {
-    for (i, other) in order.iter().enumerate() {
+    for (i, other) in ordering.iter().enumerate() {
         if *other == node {
             return Some(i as u32);
         }
@@ -27,12 +28,12 @@ pub fn find_place(order: &[u32], node: u32) -> Option<u32>
 }
 
 /// Whether the node of some tap has a place.
-pub fn any_place(order: &[u32], taps: &[Tap]) -> bool
-    requires { length order.now ≤ 4096 }
-    ensures { result ≡ has_place order.now (map exact_tap taps.now) }
+pub fn any_place(ordering: &[u32], taps: &[Tap]) -> bool
+    requires { length ordering.now ≤ MAX_SIZE }
+    ensures { result ≡ has_place ordering.now (map exact_tap taps.now) }
 {
     for tap in taps {
-        if find_place(order, tap.node.number).is_some() {
+        if find_place(ordering, tap.node.number).is_some() {
             return true;
         }
     }
@@ -40,12 +41,12 @@ pub fn any_place(order: &[u32], taps: &[Tap]) -> bool
 }
 
 // A tap from `low` to `high`. None where its node has no place or its ratio no interval.
-fn placed_tap<E: Enclosure>(order: &[u32], low: Tap, high: Tap) -> Option<PlacedTap<E>>
-    requires few { length order.now ≤ 4096 }
+fn placed_tap<E: Enclosure>(ordering: &[u32], low: Tap, high: Tap) -> Option<PlacedTap<E>>
+    requires few { length ordering.now ≤ MAX_SIZE }
     requires ordered { TapUpTo (exact_tap low) (exact_tap high) }
-    ensures { option_map (placed_ends E.ends) result ≡ tap_between E.SCALE order.now (exact_tap low) (exact_tap high) }
+    ensures { option_map (placed_ends E.ends) result ≡ tap_between E.SCALE ordering.now (exact_tap low) (exact_tap high) }
 {
-    let place = find_place(order, low.node.number)?;
+    let place = find_place(ordering, low.node.number)?;
     let ratio = E::from_range(low.ratio, high.ratio)?;
     Some(PlacedTap { place, ratio })
 }
@@ -53,18 +54,18 @@ fn placed_tap<E: Enclosure>(order: &[u32], low: Tap, high: Tap) -> Option<Placed
 /// The taps of a branch from `low` to `high`. None where one has no place or no interval.
 pub fn placed_taps<E: Enclosure>(
     alloc: Global,
-    order: &[u32],
+    ordering: &[u32],
     low: &[Tap],
     high: &[Tap],
 ) -> Result<Option<Vec<PlacedTap<E>>>, AllocError>
-    requires few { length order.now ≤ 4096 }
+    requires few { length ordering.now ≤ MAX_SIZE }
     requires ordered { AllZip TapUpTo (map exact_tap low.now) (map exact_tap high.now) }
     ensures { IfOk result (λ o. option_map (λ taps. map (placed_ends E.ends) taps.items) o
-        ≡ taps_between E.SCALE order.now (map exact_tap low.now) (map exact_tap high.now)) }
+        ≡ taps_between E.SCALE ordering.now (map exact_tap low.now) (map exact_tap high.now)) }
 {
     let mut taps = Vec::new(alloc);
     for i in 0..low.len() {
-        let Some(tap) = placed_tap(order, low[i], high[i]) else {
+        let Some(tap) = placed_tap(ordering, low[i], high[i]) else {
             return Ok(None);
         };
         taps.push(tap)?;

@@ -75,31 +75,31 @@ unfolding den
 den-over n (pos k) h = let e : suc (k - 1) ≡ k = omega (arith, ints) in ap pos e
 den-over n (negsuc k) h = absurd (omega (arith, ints))
 
+above_zero : (d : ℤ) (n : ℕ) → pos (suc n) ≤ℤ d → pos 0 <ℤ d
+above_zero d n h = omega (arith, ints)
+
 pub inverse_times : (levels : ScanLevels) → AreScanLevels levels
     → times (inverse_threshold levels) (times (whole levels.threshold) (whole levels.mva)) ≈ times (whole levels.kv) (whole levels.kv)
 unfolding inverse_threshold
 inverse_times levels h =
-    let some : pos 1 ≤ℤ (levels.threshold *ℤ levels.mva) = at_least levels.threshold levels.mva h.threshold_low h.mva_low in
+    let some : pos 1 ≤ℤ (levels.threshold *ℤ levels.mva) = at_least levels.threshold levels.mva (above_zero levels.threshold _ h.threshold.0) (above_zero levels.mva _ h.mva.0) in
     let below = den-over (levels.kv *ℤ levels.kv) (levels.threshold *ℤ levels.mva) some in
     record { cross = simp (ratio_parts, below) (ring int_ring (levels.kv ∷ levels.threshold ∷ levels.mva ∷ []) (search reads depth 40 fits 4000) none_left) }
   where
-    at_least : (a b : ℤ) → pos 1 ≤ℤ a → pos 1000 ≤ℤ b → pos 1 ≤ℤ (a *ℤ b)
-    at_least a b p q = let some = pos-mul a b (omega (arith, ints)) (omega (arith, ints)) in omega (arith, ints)
-
-above_zero : (d : ℤ) (n : ℕ) → pos (suc n) ≤ℤ d → pos 0 <ℤ d
-above_zero d n h = omega (arith, ints)
+    at_least : (a b : ℤ) → pos 0 <ℤ a → pos 0 <ℤ b → pos 1 ≤ℤ (a *ℤ b)
+    at_least a b p q = let some = pos-mul a b p q in omega (arith, ints)
 
 -- the inverse of the voltage's square
 pub volts_apart : (levels : ScanLevels) → AreScanLevels levels
     → times (times (millionths levels.kv) (millionths levels.kv)) (reciprocal (times (millionths levels.kv) (millionths levels.kv))) ≈ whole (pos 1)
 volts_apart levels h =
     let volts = millionths levels.kv in
-    let some = above_zero levels.kv _ h.kv_low in
+    let some = above_zero levels.kv _ h.kv.0 in
     times_reciprocal (times volts volts) (apart_above (times volts volts) (rw num-times (pos-mul levels.kv levels.kv some some)))
 
 -- and of the power
 pub power_apart : (levels : ScanLevels) → AreScanLevels levels → times (millionths levels.mva) (reciprocal (millionths levels.mva)) ≈ whole (pos 1)
-power_apart levels h = times_reciprocal (millionths levels.mva) (apart_above (millionths levels.mva) (above_zero levels.mva _ h.mva_low))
+power_apart levels h = times_reciprocal (millionths levels.mva) (apart_above (millionths levels.mva) (above_zero levels.mva _ h.mva.0))
 
 -- neither the inverse threshold nor the inverse of the power is below zero
 pub inverse_natural : (levels : ScanLevels) → NotNegative (inverse_threshold levels)
@@ -110,7 +110,7 @@ pub power_natural : (levels : ScanLevels) → AreScanLevels levels → NotNegati
 power_natural levels h =
     let S = millionths levels.mva in
     let v = reciprocal S in
-    let some = above_zero levels.mva _ h.mva_low in
+    let some = above_zero levels.mva _ h.mva.0 in
     ratio_order.along (linear ratio_ring (S ∷ v ∷ []) (weigh ratio_ring v (power_apart levels h)) (search reads depth 40 fits 4000) none_left)
     (ratio_order.product (not_negative_in S (omega (arith, ints))) (square_not_negative v))
 
@@ -128,9 +128,9 @@ pub ohms_below : (scale : ℕ) (levels : ScanLevels) (high : ℕ) → AreScanLev
     → times (whole (pos (micro_ohms_of scale levels high))) (times (whole levels.mva) (whole (pos (root_ceil_of high)))) ≼ times (times (whole levels.kv) (whole levels.kv)) (units scale)
 unfolding micro_ohms_of
 ohms_below scale levels high h =
-    record { cross = simp (ratio_parts, int-mul_one) (at_most levels.kv levels.mva (2 ^ scale) (root_ceil_of high) h.kv_low h.mva_low) }
+    record { cross = simp (ratio_parts, int-mul_one) (at_most levels.kv levels.mva (2 ^ scale) (root_ceil_of high) (above_zero levels.kv _ h.kv.0) (above_zero levels.mva _ h.mva.0)) }
   where
-    at_most : (k m : ℤ) (u r : ℕ) → pos 100000 ≤ℤ k → pos 1000 ≤ℤ m → (pos (unsigned_abs k * unsigned_abs k * u / (unsigned_abs m * r)) *ℤ (m *ℤ pos r)) ≤ℤ (k *ℤ k *ℤ pos u)
+    at_most : (k m : ℤ) (u r : ℕ) → pos 0 <ℤ k → pos 0 <ℤ m → (pos (unsigned_abs k * unsigned_abs k * u / (unsigned_abs m * r)) *ℤ (m *ℤ pos r)) ≤ℤ (k *ℤ k *ℤ pos u)
     at_most (pos k) (pos m) u r p q = let part : k * k * u / (m * r) * (m * r) ≤ k * k * u = omega arith in omega (arith, ints)
     at_most (pos k) (negsuc m) u r p q = absurd (omega (arith, ints))
     at_most (negsuc k) m u r p q = absurd (omega (arith, ints))

@@ -108,8 +108,8 @@ split_levels finest lo hi bs stack wide =
     let half : 2 ^ (16 - length bs) * finest ≡ 2 * (2 ^ (16 - suc (length bs)) * finest) = halved (length bs) finest few in
     let fine : 1 ≤ finest = stack.split in
     let within : IsTestable lo hi = stack.levels.2 in
-    let lower : IsTestable lo (middle lo hi) = record { above = within.above; ordered = omega arith; below = omega (arith, within.below) } in
-    let upper : IsTestable (middle lo hi) hi = record { above = omega (arith, within.above); ordered = omega arith; below = within.below } in
+    let lower : IsTestable lo (middle lo hi) = record { above = within.above; ordered = omega arith } in
+    let upper : IsTestable (middle lo hi) hi = record { above = omega (arith, within.above); ordered = omega arith } in
     record {
       split = fine;
       fits = omega arith;

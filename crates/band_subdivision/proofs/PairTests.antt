@@ -102,17 +102,17 @@ scanned_held s network driven e h y held natural reduced holds = by (int_lt (pos
           };
         }
 
-pair_reduces : (s : ℕ) (low high : Network) (driven : ℕ) (order : List ℕ) (e : Ratio) → CanAssemble low high driven order → pos 0 ≤ℤ e.num
-    → (network : Network) → LiesBetween network low high → ReducesTo s (pair_value s low high order e) (scanned_network network driven e) driven
+pair_reduces : (s : ℕ) (low high : Network) (driven : ℕ) (ordering : List ℕ) (e : Ratio) → CanAssemble low high driven ordering → pos 0 ≤ℤ e.num
+    → (network : Network) → LiesBetween network low high → ReducesTo s (pair_value s low high ordering e) (scanned_network network driven e) driven
 unfolding pair_value
-pair_reduces s low high driven order e can natural network between = record {
+pair_reduces s low high driven ordering e can natural network between = record {
   at_each = λ lo hi held h testable value is_order inside.
       let (y, is_reduced, made) = bind-some _ _ held value in
       let (rows, is_rows, is_y) = bind-some _ _ y is_reduced in
-      let exact = reduced_matrix_holds s low high driven order can lo hi rows y (ok_some _ _ is_rows) (ok_some _ _ is_y) h is_order inside network between in
+      let exact = reduced_matrix_holds s low high driven ordering can lo hi rows y (ok_some _ _ is_rows) (ok_some _ _ is_y) h is_order inside network between in
       scanned_held s network driven e h exact.y held natural exact.reduced (extra_held s lo hi e y held exact.y h is_order inside made exact.held);
 }
 
 pub pair_is_sound : PairTestIsSound
-pair_is_sound scale levels low high driven order e in_range can natural network between =
-    test_is_sound scale levels (pair_value scale low high order e) (scanned_network network driven e) driven in_range (pair_reduces scale low high driven order e can natural network between)
+pair_is_sound scale levels low high driven ordering e in_range can natural network between =
+    test_is_sound scale levels (pair_value scale low high ordering e) (scanned_network network driven e) driven in_range (pair_reduces scale low high driven ordering e can natural network between)

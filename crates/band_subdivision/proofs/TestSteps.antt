@@ -1,5 +1,5 @@
 -- Sizes of the numbers of an interval test.
-use Rattle.std.proofs.Common.{◌≡◌, ℕ, ◌*◌, ◌/◌, ◌^◌, ◌≤◌, ◌<◌, ℤ, pos, negsuc, ◌*ℤ◌, ◌≤ℤ◌, unsigned_abs, Bool, true, false, refl, ◌∙◌, to_z, of_z, FitsSigned, arith}
+use Rattle.std.proofs.Common.{◌≡◌, ℕ, suc, ◌*◌, ◌/◌, ◌^◌, ◌≤◌, ◌<◌, ℤ, pos, negsuc, ◌*ℤ◌, ◌≤ℤ◌, unsigned_abs, Bool, true, false, refl, ◌∙◌, to_z, of_z, FitsSigned, arith}
 use Rattle.std.specs.Int.{w128}
 use Rattle.std.specs.Prelude.{if◌then◌else◌, min, max}
 use Rattle.std.proofs.Math.Nat.{div-le_self}
@@ -13,10 +13,10 @@ use Rattle.exact_fraction.proofs.Roots.{root_ceil_only}
 use Rattle.band_subdivision.specs.IntervalTest.{AreScanLevels, inverse_threshold, micro_ohms_of}
 use Rattle.band_subdivision.specs.declared.interval_test.ScanLevels.{ScanLevels}
 
-pub ohms_fit : (k u n : ℕ) → k ≤ 2000000000 → u ≤ 2 ^ 48 → k * k * u / n ≤ 2 ^ 110
+pub ohms_fit : (k u n : ℕ) → k ≤ 2 ^ 31 → u ≤ 2 ^ 48 → k * k * u / n ≤ 2 ^ 110
 ohms_fit k u n fits small =
-    let square : k * k ≤ 2000000000 * 2000000000 = mul-le _ _ _ _ fits fits in
-    let whole : k * k * u ≤ (2000000000 * 2000000000) * 2 ^ 48 = mul-le _ _ _ _ square small in
+    let square : k * k ≤ 2 ^ 31 * 2 ^ 31 = mul-le _ _ _ _ fits fits in
+    let whole : k * k * u ≤ 2 ^ 31 * 2 ^ 31 * 2 ^ 48 = mul-le _ _ _ _ square small in
     let part = div-le_self (k * k * u) n in
     omega arith
 
@@ -34,15 +34,12 @@ inverse_is levels x k t m ek et em top below =
 -- the threshold times the power is above 0
 pub some_below : (levels : ScanLevels) (t m : ℕ) → AreScanLevels levels → t ≡ unsigned_abs levels.threshold → m ≡ unsigned_abs levels.mva → 0 < t * m
 some_below levels t m h et em =
-    let some : 1 ≤ t = rw et (some_size levels.threshold h.threshold_low) in
-    let more : 1 ≤ m = rw em (more_size levels.mva h.mva_low) in
+    let some : 1 ≤ t = rw et (some_size levels.threshold _ h.threshold.0) in
+    let more : 1 ≤ m = rw em (some_size levels.mva _ h.mva.0) in
     omega (arith, mul-le 1 1 _ _ some more)
   where
-    some_size : (z : ℤ) → pos 1 ≤ℤ z → 1 ≤ unsigned_abs z
-    some_size z h = omega (arith, ints)
-
-    more_size : (z : ℤ) → pos 1000 ≤ℤ z → 1 ≤ unsigned_abs z
-    more_size z h = omega (arith, ints)
+    some_size : (z : ℤ) (n : ℕ) → pos (suc n) ≤ℤ z → 1 ≤ unsigned_abs z
+    some_size z n h = omega (arith, ints)
 
 pub product_fits : (a b : ℕ) → a < 10 ^ 12 → b < 10 ^ 12 → a * b < 2 ^ 120
 product_fits a b ha hb =
@@ -70,12 +67,12 @@ low_at_most_high y =
 pub high_positive : (y : Box) (low high : ℕ) → low ≡ low_square_sum y → high ≡ high_square_sum y → 0 < low → 0 < high
 high_positive y low high el eh some = let h = low_at_most_high y in omega (arith, h, el, eh)
 
--- the voltage is at most 2000 kV in size
-pub kv_fits : (levels : ScanLevels) → AreScanLevels levels → unsigned_abs levels.kv ≤ 2000000000
-kv_fits levels h = size_at_most levels.kv 2000000000 h.kv_low h.kv_high
+-- the voltage is at most 2^31 millionths of a kV in size
+pub kv_fits : (levels : ScanLevels) → AreScanLevels levels → unsigned_abs levels.kv ≤ 2 ^ 31
+kv_fits levels h = let fits = size_at_most levels.kv _ _ h.kv.0 h.kv.1 in omega arith
   where
-    size_at_most : (z : ℤ) (n : ℕ) → pos 100000 ≤ℤ z → z ≤ℤ pos n → unsigned_abs z ≤ n
-    size_at_most z n low high = omega (arith, ints)
+    size_at_most : (z : ℤ) (m n : ℕ) → pos m ≤ℤ z → z ≤ℤ pos n → unsigned_abs z ≤ n
+    size_at_most z m n low high = omega (arith, ints)
 
 -- the micro-ohms by the root's own properties
 pub ohms_are : (scale : ℕ) (levels : ScanLevels) (high k m u r : ℕ) → k ≡ unsigned_abs levels.kv → m ≡ unsigned_abs levels.mva → u ≡ 2 ^ scale

@@ -35,7 +35,7 @@ at_middle : (lo hi : ℕ) → lo < hi → (lo ≤ middle lo hi) × (middle lo hi
 at_middle lo hi up = (omega arith, omega arith)
 
 point : (lo hi at : ℕ) → IsTestable lo hi → lo ≤ at → at ≤ hi → IsTestable at at
-point lo hi at h low high = record { above = omega (arith, h.above); ordered = omega arith; below = omega (arith, h.below) }
+point lo hi at h low high = record { above = omega (arith, h.above); ordered = omega arith }
 
 peak_true : (s : Scanned) (test : BoxTest) (widths : Widths) (lo hi : ℕ) (other : Option Kind) (kind : Kind) → IsSound s test → Bounds lo hi
     → peak_of test lo hi other ≡ Some kind → (NamesNoPeak test lo hi → other ≡ Some kind → IsTrueKind s test widths lo hi kind) → IsTrueKind s test widths lo hi kind
@@ -87,10 +87,10 @@ come_true : (s : Scanned) (test : BoxTest) (widths : Widths) (lo hi : ℕ) (row 
 come_true s test widths _ _ _ sound fine order testable (itself lo hi kind up is) = kind_true s test widths lo hi kind sound order (record { up = up; testable = testable }) is
 come_true s test widths _ _ _ sound fine order testable (lower lo hi row split from) =
     let wide : widths.finest < hi - lo = split.wide in
-    come_true s test widths lo (middle lo hi) row sound fine order (record { above = testable.above; ordered = omega arith; below = omega (arith, testable.below) }) from
+    come_true s test widths lo (middle lo hi) row sound fine order (record { above = testable.above; ordered = omega arith }) from
 come_true s test widths _ _ _ sound fine order testable (upper lo hi row split from) =
     let wide : widths.finest < hi - lo = split.wide in
-    come_true s test widths (middle lo hi) hi row sound fine order (record { above = omega (arith, testable.above); ordered = omega arith; below = testable.below }) from
+    come_true s test widths (middle lo hi) hi row sound fine order (record { above = omega (arith, testable.above); ordered = omega arith }) from
 
 pub boxes_are_true : BoxesAreTrue
 boxes_are_true s test widths lo hi sound fine order up testable =

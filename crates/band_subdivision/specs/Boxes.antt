@@ -13,11 +13,10 @@ pub record BoxTest : Type 0 where
 abbrev pub above_at : BoxTest → ℕ → Option ℤ
 above_at test at = test.above at at
 
--- a box of orders that a test may be asked about: from 0.1 to 100
+-- a box of orders above 0, in micro-orders
 pub record IsTestable (lo hi : ℕ) : Type 0 where
-  pub above : 100000 ≤ lo
+  pub above : 1 ≤ lo
   pub ordered : lo ≤ hi
-  pub below : hi ≤ 100000000
 
 -- the widths down to which boxes are split, and from which peaks are named
 pub record Widths : Type 0 where

@@ -1,20 +1,19 @@
 -- The interval test of one box of orders, by the reduced admittance of the driven node.
-use Rattle.std.specs.Prelude.{ℕ, ◌*◌, ◌/◌, ◌^◌, ℤ, pos, ◌*ℤ◌, ◌≤ℤ◌, ◌<ℤ◌, unsigned_abs, Bool, false, ◌&&◌, nat_le, nat_lt, if◌then◌else◌, Option, Some, None}
+use Rattle.std.specs.Prelude.{ℕ, ◌*◌, ◌/◌, ◌^◌, ℤ, pos, ◌*ℤ◌, unsigned_abs, Bool, false, ◌&&◌, nat_le, nat_lt, if◌then◌else◌, Option, Some, None}
 use Rattle.exact_algebra.specs.Ratio.{Ratio, over}
 use Rattle.exact_fraction.specs.Scaled.{end_of, floor_scaled_of, ceil_scaled_of}
 use Rattle.exact_fraction.specs.Root.{root_ceil_of}
 use Rattle.complex_interval.specs.Boxes.{Box, low_square_sum, high_square_sum}
+use Rattle.study_model.specs.Range.{IsIn}
+use Rattle.study_model.specs.declared.range.TheConstants.Range.{ABOVE_ZERO, BUS_KV, BASE_MVA}
 use Rattle.band_subdivision.specs.Boxes.{BoxTest}
 use Rattle.band_subdivision.specs.declared.interval_test.ScanLevels.{ScanLevels}
 
--- in range: a threshold from 10^-6 to below 10^6 ohms, 0.1 to 2000 kV, and 0.001 to 10000 MVA
+-- in the ranges of a study
 pub record AreScanLevels (levels : ScanLevels) : Type 0 where
-  pub threshold_low : pos 1 ≤ℤ levels.threshold
-  pub threshold_high : levels.threshold <ℤ pos (10 ^ 12)
-  pub kv_low : pos 100000 ≤ℤ levels.kv
-  pub kv_high : levels.kv ≤ℤ pos 2000000000
-  pub mva_low : pos 1000 ≤ℤ levels.mva
-  pub mva_high : levels.mva ≤ℤ pos 10000000000
+  pub threshold : IsIn ABOVE_ZERO levels.threshold
+  pub kv : IsIn BUS_KV levels.kv
+  pub mva : IsIn BASE_MVA levels.mva
 
 -- 1/T = v²/(threshold·s), for the threshold T per unit: the millionths cancel
 unfoldable pub inverse_threshold : ScanLevels → Ratio

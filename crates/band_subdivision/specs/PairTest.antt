@@ -22,17 +22,17 @@ with_extra s susceptance lo hi y = do
   im ← add_ends y.im more
   Some (record { re = y.re; im = im })
 
--- the reduced value of the pair's matrix over the orders from lo to hi, with the driven node last in the node order
+-- the reduced value of the pair's matrix over the orders from lo to hi, with the driven node last in the node ordering
 abbrev pub reduced_value : ℕ → Network → Network → List ℕ → ℕ → ℕ → Option Box
-reduced_value s low high order lo hi = result_ok (box_matrix s low high order lo hi) >>= (λ rows. result_ok (reduce_boxes s rows))
+reduced_value s low high ordering lo hi = result_ok (box_matrix s low high ordering lo hi) >>= (λ rows. result_ok (reduce_boxes s rows))
 
 -- this value with H·e added to its imaginary part
 unfoldable pub pair_value : ℕ → Network → Network → List ℕ → Ratio → ℕ → ℕ → Option Box
-pair_value s low high order e lo hi = reduced_value s low high order lo hi >>= with_extra s (range_ends s e e) lo hi
+pair_value s low high ordering e lo hi = reduced_value s low high ordering lo hi >>= with_extra s (range_ends s e e) lo hi
 
 -- the interval test by this value
 abbrev pub pair_test : ℕ → ScanLevels → Network → Network → List ℕ → Ratio → BoxTest
-pair_test s levels low high order e = interval_test s levels (pair_value s low high order e)
+pair_test s levels low high ordering e = interval_test s levels (pair_value s low high ordering e)
 
 -- a network that is scanned with an extra susceptance: it has one more Shunt of it from the driven node to ground, where it is above 0
 abbrev pub scanned_network : Network → ℕ → Ratio → Network

@@ -35,5 +35,5 @@ IsAboveForEach s at micro_ohms = (network : Network) → LiesBetween network s.l
 -- the test of a pair is sound for every network between the two
 abbrev pub PairTestIsSound : Type 0
 PairTestIsSound =
-    (scale : ℕ) (levels : ScanLevels) (low high : Network) (driven : ℕ) (order : List ℕ) (e : Ratio) → AreScanLevels levels → CanAssemble low high driven order → pos 0 ≤ℤ e.num
-    → (network : Network) → LiesBetween network low high → IsSound (scanned_with levels network driven e) (pair_test scale levels low high order e)
+    (scale : ℕ) (levels : ScanLevels) (low high : Network) (driven : ℕ) (ordering : List ℕ) (e : Ratio) → AreScanLevels levels → CanAssemble low high driven ordering → pos 0 ≤ℤ e.num
+    → (network : Network) → LiesBetween network low high → IsSound (scanned_with levels network driven e) (pair_test scale levels low high ordering e)

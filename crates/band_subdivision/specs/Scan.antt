@@ -13,23 +13,23 @@ use Rattle.band_subdivision.specs.Testing.{Testing}
 use Rattle.band_subdivision.specs.declared.scan_spec.ScanSpec.{ScanSpec}
 use Rattle.scan_report.specs.declared.boxes.BoxRow.{BoxRow}
 
--- a scan: its pair of networks, its driven node with the node order, the extra susceptance there, and the boxes still to come
+-- a scan: its pair of networks, its driven node with the node ordering, the extra susceptance there, and the boxes still to come
 pub record Scanning : Type 0 where
   pub spec : ScanSpec
   pub low : Network
   pub high : Network
   pub driven : ℕ
-  pub order : List ℕ
+  pub ordering : List ℕ
   pub extra : Ratio
   pub left : List BoxRow
 
 -- the scan's test of boxes, at a scale of intervals
 abbrev pub test_of : ℕ → Scanning → BoxTest
-test_of scale s = pair_test scale (levels_of s.spec) s.low s.high s.order s.extra
+test_of scale s = pair_test scale (levels_of s.spec) s.low s.high s.ordering s.extra
 
 -- all boxes of the scan's band, at an extra susceptance
 abbrev pub whole_list : ℕ → Scanning → Ratio → List BoxRow
-whole_list scale s e = boxes_of (pair_test scale (levels_of s.spec) s.low s.high s.order e) (widths_of s.spec) s.spec.from s.spec.to
+whole_list scale s e = boxes_of (pair_test scale (levels_of s.spec) s.low s.high s.ordering e) (widths_of s.spec) s.spec.from s.spec.to
 
 -- a new scan of this pair, which has its whole list of boxes still to come, without an extra susceptance
 pub record IsScanOf (scale : ℕ) (low high : Network) (driven : ℕ) (spec : ScanSpec) (s : Scanning) : Type 0 where
@@ -37,7 +37,7 @@ pub record IsScanOf (scale : ℕ) (low high : Network) (driven : ℕ) (spec : Sc
   pub from_low : s.low ≡ low
   pub to_high : s.high ≡ high
   pub at : s.driven ≡ driven
-  pub ready : CanAssemble low high driven s.order
+  pub ready : CanAssemble low high driven s.ordering
   pub no_extra : s.extra ≡ nothing
   pub left : s.left ≡ whole_list scale s nothing
   pub covers : Covers spec.from spec.to (map span_of s.left)
@@ -45,6 +45,6 @@ pub record IsScanOf (scale : ℕ) (low high : Network) (driven : ℕ) (spec : Sc
 -- a test that a scan can use, and the bands that are still to come
 pub record IsScan (t : Testing) (bands : List Band) : Type 0 where
   pub spec : IsScanSpec t.spec
-  pub ready : CanAssemble t.low t.high t.driven t.order
+  pub ready : CanAssemble t.low t.high t.driven t.ordering
   pub natural : pos 0 ≤ℤ t.extra.num
   pub stack : IsStack t.spec.finest bands

@@ -1,6 +1,9 @@
 -- What a scan is asked.
 use Rattle.std.specs.Prelude.{pos, ◌-◌, ◌*◌, ◌≤◌, ◌<◌}
 use Rattle.exact_algebra.specs.Ratio.{Ratio, over}
+use Rattle.study_model.specs.Range.{IsIn}
+use Rattle.study_model.specs.declared.limits.TheConstants.{MAX_WIDTHS}
+use Rattle.study_model.specs.declared.range.TheConstants.Range.{BAND, FINEST, LOCATE}
 use Rattle.band_subdivision.specs.Boxes.{Widths}
 use Rattle.band_subdivision.specs.IntervalTest.{AreScanLevels}
 use Rattle.band_subdivision.specs.declared.interval_test.ScanLevels.{ScanLevels}
@@ -12,16 +15,16 @@ levels_of spec = record { threshold = spec.threshold; kv = spec.kv; mva = spec.m
 abbrev pub widths_of : ScanSpec → Widths
 widths_of spec = record { finest = spec.finest; locate = spec.locate }
 
--- in range: levels, a band of orders from 0.1 to 100, at most 65536 times as wide as finest, and locate from finest to 100
+-- in the ranges of a study: the levels, and a band of finest widths, so many at most, in which peaks are located in boxes no finer
 pub record IsScanSpec (spec : ScanSpec) : Type 0 where
   pub levels : AreScanLevels (levels_of spec)
-  pub above : 100000 ≤ spec.from
+  pub from : IsIn BAND (pos spec.from)
+  pub to : IsIn BAND (pos spec.to)
   pub band : spec.from < spec.to
-  pub below : spec.to ≤ 100000000
-  pub finest : 1 ≤ spec.finest
-  pub few : spec.to - spec.from ≤ 65536 * spec.finest
+  pub finest : IsIn FINEST (pos spec.finest)
+  pub few : spec.to - spec.from ≤ MAX_WIDTHS * spec.finest
+  pub wide : IsIn LOCATE (pos spec.locate)
   pub locate : spec.finest ≤ spec.locate
-  pub wide : spec.locate ≤ 100000000
 
 -- no extra susceptance
 abbrev pub nothing : Ratio

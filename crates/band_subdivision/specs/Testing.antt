@@ -11,18 +11,18 @@ use Rattle.band_subdivision.specs.ScanSpec.{levels_of}
 use Rattle.band_subdivision.specs.declared.scan_spec.ScanSpec.{ScanSpec}
 use Rattle.band_subdivision.specs.declared.interval_test.ScanLevels.{ScanLevels}
 
--- what is asked of a scan, a pair of networks that is driven at a node, with the node order, and an extra susceptance there
+-- what is asked of a scan, a pair of networks that is driven at a node, with the node ordering, and an extra susceptance there
 pub record Testing : Type 0 where
   pub spec : ScanSpec
   pub low : Network
   pub high : Network
   pub driven : ℕ
-  pub order : List ℕ
+  pub ordering : List ℕ
   pub extra : Ratio
 
 -- the test of boxes, at a scale of intervals
 abbrev pub box_test : ℕ → Testing → BoxTest
-box_test scale t = pair_test scale (levels_of t.spec) t.low t.high t.order t.extra
+box_test scale t = pair_test scale (levels_of t.spec) t.low t.high t.ordering t.extra
 
 -- levels in range, with their bounds
 pub record AreBounds (scale : ℕ) (levels : ScanLevels) (to_clear to_name : Option ℤ) : Type 0 where
@@ -30,8 +30,8 @@ pub record AreBounds (scale : ℕ) (levels : ScanLevels) (to_clear to_name : Opt
   pub clear : to_clear ≡ clear_bound scale levels
   pub above : to_name ≡ above_bound scale levels
 
--- a matrix for the node order, and the interval of the extra susceptance
-pub record AreParts (scale : ℕ) (order : List ℕ) (matrix : Square) (extra : Ratio) (susceptance : Option Ends) : Type 0 where
-  pub size : matrix.size ≡ length order
-  pub some : 1 ≤ length order
+-- a matrix for the node ordering, and the interval of the extra susceptance
+pub record AreParts (scale : ℕ) (ordering : List ℕ) (matrix : Square) (extra : Ratio) (susceptance : Option Ends) : Type 0 where
+  pub size : matrix.size ≡ length ordering
+  pub some : 1 ≤ length ordering
   pub is : susceptance ≡ range_ends scale extra extra

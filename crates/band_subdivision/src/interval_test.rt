@@ -12,11 +12,11 @@ use fixed_decimal::Decimal;
 /// What a scan compares an impedance with, and its base values.
 #[derive(Clone, Copy)]
 pub struct ScanLevels {
-    /// The threshold, in ohms: above 0.
+    /// The threshold, in ohms: in `Range::ABOVE_ZERO`.
     pub threshold: Decimal,
-    /// The nominal voltage, in kV: from 0.1 to 2000.
+    /// The nominal voltage, in kV: in `Range::BUS_KV`.
     pub kv: Decimal,
-    /// The base power, in MVA: from 0.001 to 10000.
+    /// The base power, in MVA: in `Range::BASE_MVA`.
     pub mva: Decimal,
 }
 

@@ -46,21 +46,21 @@ impl<E: Enclosure> Model for PairTest<E> {
       low = t.assembly.low;
       high = t.assembly.high;
       driven = t.assembly.driven;
-      order = t.assembly.order;
+      ordering = t.assembly.ordering;
       extra = ratio_of t.extra;
     } };
 
     ghost invariant = { λ t. AreBounds E.SCALE (levels_of t.spec) t.clear_bound t.above_bound
-        × AreParts E.SCALE t.assembly.order t.matrix (ratio_of t.extra) (option_map E.ends t.susceptance) };
+        × AreParts E.SCALE t.assembly.ordering t.matrix (ratio_of t.extra) (option_map E.ends t.susceptance) };
 }
 
 impl<E: Enclosure> PairTest<E> {
     /// The test without an extra susceptance.
     pub fn new(spec: ScanSpec, assembly: Assembly<E>, matrix: Matrix<E>) -> PairTest<E>
         requires levels { AreScanLevels (levels_of spec) }
-        requires size { matrix.size ≡ length assembly.order }
-        requires some { 1 ≤ length assembly.order }
-        ensures { result ≡ record { spec = spec; low = assembly.low; high = assembly.high; driven = assembly.driven; order = assembly.order; extra = nothing } }
+        requires size { matrix.size ≡ length assembly.ordering }
+        requires some { 1 ≤ length assembly.ordering }
+        ensures { result ≡ record { spec = spec; low = assembly.low; high = assembly.high; driven = assembly.driven; ordering = assembly.ordering; extra = nothing } }
     {
         let levels = spec.levels();
         let clear_bound = bound_to_clear::<E>(&levels);
@@ -95,7 +95,7 @@ impl<E: Enclosure> PairTest<E> {
     /// The reduced admittance over a box of orders, that of the extra susceptance added.
     fn value(&mut self, lo: u32, hi: u32) -> Option<Rect<E>>
         requires { IsTestable lo hi }
-        ensures value { option_map (box_of E.ends) result ≡ pair_value E.SCALE self.old.low self.old.high self.old.order self.old.extra lo hi }
+        ensures value { option_map (box_of E.ends) result ≡ pair_value E.SCALE self.old.low self.old.high self.old.ordering self.old.extra lo hi }
         ensures same { self.new ≡ self.old }
     {
         match reduced(&mut self.assembly, &mut self.matrix, lo, hi) {
@@ -128,9 +128,9 @@ fn reduced<E: Enclosure>(
     hi: u32,
 ) -> Option<Rect<E>>
     requires orders { IsTestable lo hi }
-    requires size { matrix.old.size ≡ length assembly.old.order }
-    requires some { 1 ≤ length assembly.old.order }
-    ensures value { option_map (box_of E.ends) result ≡ reduced_value E.SCALE assembly.old.low assembly.old.high assembly.old.order lo hi }
+    requires size { matrix.old.size ≡ length assembly.old.ordering }
+    requires some { 1 ≤ length assembly.old.ordering }
+    ensures value { option_map (box_of E.ends) result ≡ reduced_value E.SCALE assembly.old.low assembly.old.high assembly.old.ordering lo hi }
     ensures assembly { assembly.new ≡ assembly.old }
     ensures size { matrix.new.size ≡ matrix.old.size }
 {

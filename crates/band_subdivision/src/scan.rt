@@ -46,7 +46,7 @@ impl<E: Enclosure> Model for Scan<E> {
       low = s.test.low;
       high = s.test.high;
       driven = s.test.driven;
-      order = s.test.order;
+      ordering = s.test.ordering;
       extra = s.test.extra;
       left = boxes_left (box_test E.SCALE s.test) (widths_of s.test.spec) s.stack;
     } };
@@ -57,8 +57,8 @@ impl<E: Enclosure> Model for Scan<E> {
 /// A scan with this assembly and this matrix, which has its whole band before it.
 fn scan_by<E: Enclosure>(spec: ScanSpec, assembly: Assembly<E>, matrix: Matrix<E>) -> Scan<E>
     requires spec { IsScanSpec spec }
-    requires ready { CanAssemble assembly.low assembly.high assembly.driven assembly.order }
-    requires size { matrix.size ≡ length assembly.order }
+    requires ready { CanAssemble assembly.low assembly.high assembly.driven assembly.ordering }
+    requires size { matrix.size ≡ length assembly.ordering }
     ensures { IsScanOf E.SCALE assembly.low assembly.high assembly.driven spec result }
 {
     let stack = Stack::new(spec.from, spec.to);

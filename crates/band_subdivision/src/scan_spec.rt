@@ -8,19 +8,19 @@ use fixed_decimal::Decimal;
 /// The band of a scan, how far it is split, and what the impedance is compared with.
 #[derive(Clone, Copy)]
 pub struct ScanSpec {
-    /// The band's beginning, in micro-orders: at least 100000, which is the order 0.1.
+    /// The band's beginning, in micro-orders: in `Range::BAND`.
     pub from: u32,
-    /// The band's end, above its beginning and at most 100000000, which is the order 100.
+    /// The band's end, above its beginning and in `Range::BAND`.
     pub to: u32,
-    /// The width in micro-orders down to which boxes are split: at least 1, and at least a 65536th of the band.
+    /// The width in micro-orders down to which boxes are split: in `Range::FINEST`, and `MAX_WIDTHS` of them are as wide as the band.
     pub finest: u32,
-    /// The width in micro-orders from which on peaks are named: at least `finest`.
+    /// The width in micro-orders from which on peaks are named: in `Range::LOCATE`, and at least `finest`.
     pub locate: u32,
-    /// The threshold, in ohms: above 0.
+    /// The threshold, in ohms: in `Range::ABOVE_ZERO`.
     pub threshold: Decimal,
-    /// The nominal voltage of the scanned bus, in kV: from 0.1 to 2000.
+    /// The nominal voltage of the scanned bus, in kV: in `Range::BUS_KV`.
     pub kv: Decimal,
-    /// The base power, in MVA: from 0.001 to 10000.
+    /// The base power, in MVA: in `Range::BASE_MVA`.
     pub mva: Decimal,
     /// Whether the certified inverse is tried too. Not yet.
     pub both: bool,

@@ -4,6 +4,7 @@ ghost use Rattle.complex_interval.specs.Rect.{box_of};
 ghost use Rattle.plain_elimination.specs.Matrix.{Square};
 ghost use Rattle.certified_inverse.specs.Certificate.{valued, in_size, ceil_over, certified, enclosure, HoldsEnclosed};
 ghost use Rattle.certified_inverse.specs.declared.outcome.InverseOutcome.TheVariants.{Enclosed};
+ghost use Rattle.plain_elimination.specs.declared.limits.TheConstants.{MAX_SIZE};
 
 use crate::outcome::InverseOutcome;
 use crate::sigma::{copy_column, sigma_of};
@@ -27,12 +28,13 @@ pub struct InverseBench<E: Enclosure> {
 
 impl<E: Enclosure> Model for InverseBench<E> {
     ghost use Rattle.std.specs.Prelude.{◌≡◌, ◌≤◌, ℕ, length};
+    ghost use Rattle.plain_elimination.specs.declared.limits.TheConstants.{MAX_SIZE};
 
     ghost Value = { ℕ };
 
     ghost view = { λ b. b.size };
 
-    ghost invariant = { λ b. record { few : b.size ≤ 4096; inverse_in : b.inverse.size ≡ b.size; x_in : length b.x.items ≡ b.size; left_in : length b.left.items ≡ b.size; sums_in : length b.sums.items ≡ b.size } };
+    ghost invariant = { λ b. record { few : b.size ≤ MAX_SIZE; inverse_in : b.inverse.size ≡ b.size; x_in : length b.x.items ≡ b.size; left_in : length b.left.items ≡ b.size; sums_in : length b.sums.items ≡ b.size } };
 }
 
 // The value at the column and its error.
@@ -60,7 +62,7 @@ fn certify<E: Enclosure>(
     left: &mut [Rect<E>],
     sums: &mut [Rect<E>],
 ) -> InverseOutcome
-    requires few { matrix.now.size ≤ 4096 }
+    requires few { matrix.now.size ≤ MAX_SIZE }
     requires same { inverse.now.size ≡ matrix.now.size }
     requires rows { length inverse.now.rows ≡ inverse.now.size }
     requires column_in { column < matrix.now.size }
@@ -86,7 +88,7 @@ fn certify<E: Enclosure>(
 impl<E: Enclosure> InverseBench<E> {
     /// A bench for matrices of this size. The only call that takes memory.
     pub fn new(alloc: Global, size: u32) -> Result<InverseBench<E>, AllocError>
-        requires { size ≤ 4096 }
+        requires { size ≤ MAX_SIZE }
         ensures { IfOk result (λ b. b ≡ size) }
     {
         let count = size as usize;

@@ -4,6 +4,7 @@ ghost use Rattle.std.specs.Option.{option_map};
 ghost use Rattle.complex_interval.specs.Rect.{box_of};
 ghost use Rattle.complex_interval.specs.Boxes.{sub_boxes};
 ghost use Rattle.certified_inverse.specs.Certificate.{each_two, row_size, in_size, ceil_over};
+ghost use Rattle.plain_elimination.specs.declared.limits.TheConstants.{MAX_SIZE};
 
 use complex_interval::{Enclosure, Rect};
 use middle_inverse::size_of;
@@ -25,7 +26,7 @@ pub fn in_size(number: u128) -> Option<u64>
 /// The sum of the sizes of the first row less the second.
 pub fn size_apart<E: Enclosure>(row: &[Rect<E>], other: &[Rect<E>]) -> Option<u128>
     requires same { length row.now ≡ length other.now }
-    requires few { length row.now ≤ 4096 }
+    requires few { length row.now ≤ MAX_SIZE }
     ensures { result ≡ option_map row_size (each_two sub_boxes (map (box_of E.ends) row.now) (map (box_of E.ends) other.now)) }
 {
     let mut total: u128 = 0;

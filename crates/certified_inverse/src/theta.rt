@@ -4,6 +4,7 @@ ghost use Rattle.std.specs.Option.{option_map};
 ghost use Rattle.complex_interval.specs.Rect.{box_of};
 ghost use Rattle.plain_elimination.specs.Matrix.{Square, nought_box};
 ghost use Rattle.certified_inverse.specs.Certificate.{and_then, one_box, unit_row, row_size, row_left, theta_of, in_size};
+ghost use Rattle.plain_elimination.specs.declared.limits.TheConstants.{MAX_SIZE};
 
 use crate::size::{in_size, size_apart};
 use crate::sums::combine;
@@ -19,7 +20,7 @@ fn row_total<E: Enclosure>(
     unit: &mut [Rect<E>],
     sums: &mut [Rect<E>],
 ) -> Option<u128>
-    requires few { matrix.now.size ≤ 4096 }
+    requires few { matrix.now.size ≤ MAX_SIZE }
     requires place_in { place < matrix.now.size }
     requires factors_in { length factors.now ≡ matrix.now.size }
     requires unit_in { length unit.old ≡ matrix.now.size }
@@ -38,7 +39,7 @@ pub fn theta_of<E: Enclosure>(
     unit: &mut [Rect<E>],
     sums: &mut [Rect<E>],
 ) -> Option<u64>
-    requires few { matrix.now.size ≤ 4096 }
+    requires few { matrix.now.size ≤ MAX_SIZE }
     requires same { inverse.now.size ≡ matrix.now.size }
     requires rows { length inverse.now.rows ≡ inverse.now.size }
     requires unit_in { length unit.old ≡ matrix.now.size }

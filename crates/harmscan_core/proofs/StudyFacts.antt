@@ -1,5 +1,5 @@
 -- What follows from a study that can be scanned.
-use Rattle.std.proofs.Common.{◌≡◌, ◌≢◌, ◌⊎◌, inl, inr, ◌≤◌, ◌<◌, ◌∙◌, ℕ, unsigned_abs, List, [], ◌∷◌, length, ap, subst, refl, arith}
+use Rattle.std.proofs.Common.{◌≡◌, ◌≢◌, ◌⊎◌, inl, inr, ◌≤◌, ◌<◌, ◌∙◌, ℕ, ℤ, pos, negsuc, ◌≤ℤ◌, unsigned_abs, List, [], ◌∷◌, length, ap, subst, refl, arith}
 use Rattle.std.proofs.lemmas.Int.{ints}
 use Rattle.std.specs.Prelude.{IsTrue}
 use Rattle.std.specs.List.{AllByRecursion}
@@ -15,12 +15,16 @@ use Rattle.band_subdivision.specs.ScanSpec.{levels_of, widths_of, IsScanSpec, no
 use Rattle.band_subdivision.specs.Truth.{IsSound}
 use Rattle.band_subdivision.specs.declared.scan_spec.ScanSpec.{ScanSpec}
 use Rattle.band_subdivision.proofs.Covering.{boxes_cover}
+use Rattle.band_subdivision.proofs.Scans.{from_above, some_width}
 use Rattle.band_subdivision.proofs.Splits.{boxes_come}
 use Rattle.band_subdivision.proofs.PairTests.{pair_is_sound}
 use Rattle.band_subdivision.proofs.Truths.{boxes_are_true}
 use Rattle.band_subdivision.proofs.Texts.{boxes_have_text}
 use Rattle.scan_report.specs.declared.boxes.BoxRow.{BoxRow}
 use Rattle.study_model.specs.Lawful.{IsLawful, IsLawfulScan}
+use Rattle.study_model.specs.Range.{IsIn}
+use Rattle.study_model.specs.declared.range.Range.{Range}
+use Rattle.study_model.specs.declared.range.TheConstants.Range.{BAND, FINEST, LOCATE}
 use Rattle.study_model.specs.declared.records.ScanItem.{ScanItem}
 use Rattle.study_model.specs.declared.records.Study.{Study}
 use Rattle.study_model.specs.declared.words.Sequence.{Sequence}
@@ -31,37 +35,35 @@ use Rattle.net_branch.specs.declared.network.Network.{Network as BuiltNetwork}
 use Rattle.element_parts.proofs.Values.{kv_within}
 use Rattle.sequence_network.specs.Networks.{network_of}
 use Rattle.sequence_network.specs.Refusals.{IsLiveScan, HasLiveNetworks}
-use Rattle.harmscan_core.specs.Scan.{spec_of, order_of, test_of, boxes_in}
+use Rattle.harmscan_core.specs.Scan.{spec_of, ordering_of, test_of, boxes_in}
 use Rattle.harmscan_core.specs.Fold.{most_boxes}
 use Rattle.harmscan_core.specs.Claim.{looked_at, HoldsOfScan, HoldsOfStudy}
 use Rattle.harmscan_core.specs.Plan.{CanScan}
 use Rattle.harmscan_core.proofs.BoxCount.{boxes_few}
-use Rattle.harmscan_core.proofs.NodeOrders.{order_is}
+use Rattle.harmscan_core.proofs.NodeOrderings.{order_is}
+
+-- a value of a range that has none below 0 is in it by its size
+in_size : (range : Range) (d : ℤ) → pos 0 ≤ℤ range.low → IsIn range d → IsIn range (pos (unsigned_abs d))
+in_size range (pos n) low in_range = in_range
+in_size range (negsuc n) low in_range = absurd (omega (arith, ints, low, in_range.0))
 
 -- what is asked of a scan is in range
 pub spec_in_range : (study : Study) (scan : ScanItem) → IsLawful study → IsLawfulScan study.model study.buses scan → IsScanSpec (spec_of study scan)
 spec_in_range study scan b s =
     let kv = kv_within study.buses scan.bus b.buses s.bus in
     record {
-      levels = record {
-        threshold_low = s.threshold.0;
-        threshold_high = omega (arith, ints, s.threshold.1);
-        kv_low = kv.0;
-        kv_high = kv.1;
-        mva_low = b.mva.0;
-        mva_high = b.mva.1;
-      };
-      above = omega (arith, ints, s.from.0);
+      levels = record { threshold = s.threshold; kv = kv; mva = b.mva };
+      from = in_size BAND scan.from (omega (arith, ints)) s.from;
+      to = in_size BAND scan.to (omega (arith, ints)) s.to.0;
       band = omega (arith, ints, s.to.1, s.from.0, s.to.0.0);
-      below = omega (arith, ints, s.to.0.1, s.to.0.0);
-      finest = omega (arith, ints, s.finest.0.0);
+      finest = in_size FINEST scan.finest (omega (arith, ints)) s.finest.0;
       few = omega (arith, ints, s.finest.1, s.finest.0.0, s.from.0, s.to.0.0);
+      wide = in_size LOCATE scan.locate (omega (arith, ints)) s.locate.0;
       locate = omega (arith, ints, s.locate.1, s.finest.0.0, s.locate.0.0);
-      wide = omega (arith, ints, s.locate.0.0, s.locate.0.1);
     }
 
 band_testable : (spec : ScanSpec) → IsScanSpec spec → IsTestable spec.from spec.to
-band_testable spec s = record { above = s.above; ordered = omega (arith, s.band); below = s.below }
+band_testable spec s = record { above = from_above spec s; ordered = omega (arith, s.band) }
 
 -- ---- live buses
 live_at : (study : Study) (bus : ℕ) (sequence : Sequence) → HasLiveNetworks study → bus < length study.buses → (sequence ≡ Zero → Live (network_of study Zero) bus) → Live (network_of study sequence) bus
@@ -76,7 +78,7 @@ scan_live study scan n s live = live_at study scan.bus scan.network n s.bus live
 sound : (study : Study) (scan : ScanItem) → IsLawful study → IsLawfulScan study.model study.buses scan → CanScan study scan → IsSound (looked_at study scan) (test_of study scan)
 unfolding test_of
 sound study scan b s can =
-    pair_is_sound study.scale (levels_of (spec_of study scan)) (network_of study scan.network) (network_of study scan.network) scan.bus (order_of (network_of study scan.network) scan.bus) nothing
+    pair_is_sound study.scale (levels_of (spec_of study scan)) (network_of study scan.network) (network_of study scan.network) scan.bus (ordering_of (network_of study scan.network) scan.bus) nothing
     (spec_in_range study scan b s).levels can.ready (omega (arith, ints)) (network_of study scan.network) (between_itself (network_of study scan.network) can.whole)
 
 pub scan_holds : (study : Study) (scan : ScanItem) → IsLawful study → IsLawfulScan study.model study.buses scan → CanScan study scan → HoldsOfScan study scan
@@ -84,9 +86,9 @@ unfolding boxes_in
 scan_holds study scan b s can =
     let r = spec_in_range study scan b s in
     record {
-      covers = boxes_cover (test_of study scan) (widths_of (spec_of study scan)) _ _ r.finest r.band;
-      true_boxes = boxes_are_true _ (test_of study scan) (widths_of (spec_of study scan)) _ _ (sound study scan b s can) r.finest r.locate r.band (band_testable (spec_of study scan) r);
-      split_boxes = boxes_come (test_of study scan) (widths_of (spec_of study scan)) _ _ r.finest r.band;
+      covers = boxes_cover (test_of study scan) (widths_of (spec_of study scan)) _ _ (some_width _ r) r.band;
+      true_boxes = boxes_are_true _ (test_of study scan) (widths_of (spec_of study scan)) _ _ (sound study scan b s can) (some_width _ r) r.locate r.band (band_testable (spec_of study scan) r);
+      split_boxes = boxes_come (test_of study scan) (widths_of (spec_of study scan)) _ _ (some_width _ r) r.band;
     }
 
 all_hold : (study : Study) (scans : List ScanItem) → IsLawful study → AllByRecursion (IsLawfulScan study.model study.buses) scans → AllByRecursion (CanScan study) scans → AllByRecursion (HoldsOfScan study) scans
@@ -105,14 +107,14 @@ pub scan_texts : (study : Study) (scan : ScanItem) → IsLawful study → IsLawf
 unfolding boxes_in test_of
 scan_texts study scan b s =
     let r = spec_in_range study scan b s in
-    boxes_have_text study.scale (levels_of (spec_of study scan)) _ (widths_of (spec_of study scan)) _ _ (small_scale study.scale b.scale) r.levels r.finest r.band
+    boxes_have_text study.scale (levels_of (spec_of study scan)) _ (widths_of (spec_of study scan)) _ _ (small_scale study.scale b.scale) r.levels (some_width _ r) r.band
 
 pub scan_few : (study : Study) (scan : ScanItem) → IsLawful study → IsLawfulScan study.model study.buses scan → length (boxes_in study scan) < most_boxes
 unfolding boxes_in
 scan_few study scan b s =
     let r = spec_in_range study scan b s in
-    let few = boxes_few (test_of study scan) (widths_of (spec_of study scan)) (unsigned_abs scan.from) (unsigned_abs scan.to) r.finest r.band in
-    omega (arith, few, r.below)
+    let few = boxes_few (test_of study scan) (widths_of (spec_of study scan)) (unsigned_abs scan.from) (unsigned_abs scan.to) (some_width _ r) r.band in
+    omega (arith, ints, few, r.to.1)
 
 -- ---- the walk of a scan
 -- a new walk of the network that a scan looks at has the scan's boxes before it
@@ -120,21 +122,21 @@ pub walk_boxes : (scale : ℕ) (study : Study) (scan : ScanItem) (network : Netw
     → IsScanOf scale network network scan.bus (spec_of study scan) walk → walk.left ≡ boxes_in study scan
 unfolding boxes_in test_of
 walk_boxes scale study scan network walk e n can w =
-    let ready : CanAssemble (network_of study scan.network) (network_of study scan.network) scan.bus walk.order = subst (λ (x : Network). CanAssemble x x scan.bus walk.order) n w.ready in
-    let order : walk.order ≡ order_of (network_of study scan.network) scan.bus = order_is (network_of study scan.network) scan.bus walk.order can.whole ready.ordered in
-    let boxes : (s : ℕ) → ScanSpec → Network → Network → List ℕ → List BoxRow = λ s spec low high order. boxes_of (pair_test s (levels_of spec) low high order nothing) (widths_of spec) spec.from spec.to in
+    let ready : CanAssemble (network_of study scan.network) (network_of study scan.network) scan.bus walk.ordering = subst (λ (x : Network). CanAssemble x x scan.bus walk.ordering) n w.ready in
+    let ordering : walk.ordering ≡ ordering_of (network_of study scan.network) scan.bus = order_is (network_of study scan.network) scan.bus walk.ordering can.whole ready.ordered in
+    let boxes : (s : ℕ) → ScanSpec → Network → Network → List ℕ → List BoxRow = λ s spec low high ordering. boxes_of (pair_test s (levels_of spec) low high ordering nothing) (widths_of spec) spec.from spec.to in
     w.left
-    ∙ ap (λ (x : ScanSpec). boxes scale x walk.low walk.high walk.order) w.same_spec
-    ∙ ap (λ (x : Network). boxes scale (spec_of study scan) x walk.high walk.order) (w.from_low ∙ n)
-    ∙ ap (λ (x : Network). boxes scale (spec_of study scan) (network_of study scan.network) x walk.order) (w.to_high ∙ n)
-    ∙ ap (λ (x : List ℕ). boxes scale (spec_of study scan) (network_of study scan.network) (network_of study scan.network) x) order
-    ∙ ap (λ (x : ℕ). boxes x (spec_of study scan) (network_of study scan.network) (network_of study scan.network) (order_of (network_of study scan.network) scan.bus)) e
+    ∙ ap (λ (x : ScanSpec). boxes scale x walk.low walk.high walk.ordering) w.same_spec
+    ∙ ap (λ (x : Network). boxes scale (spec_of study scan) x walk.high walk.ordering) (w.from_low ∙ n)
+    ∙ ap (λ (x : Network). boxes scale (spec_of study scan) (network_of study scan.network) x walk.ordering) (w.to_high ∙ n)
+    ∙ ap (λ (x : List ℕ). boxes scale (spec_of study scan) (network_of study scan.network) (network_of study scan.network) x) ordering
+    ∙ ap (λ (x : ℕ). boxes x (spec_of study scan) (network_of study scan.network) (network_of study scan.network) (ordering_of (network_of study scan.network) scan.bus)) e
 
 -- what the walk of a network was made of: the network can be scanned
 pub can_scan : (scale : ℕ) (study : Study) (scan : ScanItem) (network : BuiltNetwork) (walk : Scanning) → exact_network network ≡ network_of study scan.network → IsWholeNetwork network
     → IsScanOf scale (exact_network network) (exact_network network) scan.bus (spec_of study scan) walk → CanScan study scan
 can_scan scale study scan network walk e w is =
     let whole : IsWhole (network_of study scan.network) = subst IsWhole e w.exact in
-    let ready : CanAssemble (network_of study scan.network) (network_of study scan.network) scan.bus walk.order = subst (λ (x : Network). CanAssemble x x scan.bus walk.order) e is.ready in
-    let order : walk.order ≡ order_of (network_of study scan.network) scan.bus = order_is (network_of study scan.network) scan.bus walk.order whole ready.ordered in
-    record { whole = whole; ready = subst (λ (o : List ℕ). CanAssemble (network_of study scan.network) (network_of study scan.network) scan.bus o) order ready }
+    let ready : CanAssemble (network_of study scan.network) (network_of study scan.network) scan.bus walk.ordering = subst (λ (x : Network). CanAssemble x x scan.bus walk.ordering) e is.ready in
+    let ordering : walk.ordering ≡ ordering_of (network_of study scan.network) scan.bus = order_is (network_of study scan.network) scan.bus walk.ordering whole ready.ordered in
+    record { whole = whole; ready = subst (λ (o : List ℕ). CanAssemble (network_of study scan.network) (network_of study scan.network) scan.bus o) ordering ready }

@@ -1,5 +1,5 @@
 -- What the program keeps while it goes over the boxes of a scan; proofs/Folds.antt shows that it comes to the regions and counts of a report.
-use Rattle.std.specs.Prelude.{ℕ, ℤ, ◌+◌, nat_lt, int_lt, false, ◌||◌, if◌then◌else◌, List, [], ◌∷◌, ◌++◌, Option, Some, None}
+use Rattle.std.specs.Prelude.{ℕ, ℤ, ◌+◌, ◌-◌, ◌^◌, nat_lt, int_lt, false, ◌||◌, if◌then◌else◌, List, [], ◌∷◌, ◌++◌, Option, Some, None}
 use Rattle.scan_report.specs.declared.boxes.Kind.{Kind}
 use Rattle.scan_report.specs.declared.boxes.Kind.TheVariants.{Cleared, Peak, Undecided}
 use Rattle.scan_report.specs.declared.boxes.BoxRow.{BoxRow}
@@ -18,7 +18,7 @@ use Rattle.harmscan_core.specs.Scan.{boxes_in}
 
 -- a scan has fewer boxes than this, so its counts are numbers of 32 bits
 abbrev pub most_boxes : ℕ
-most_boxes = 4294967295
+most_boxes = 2 ^ 32 - 1
 
 -- of two peaks the one with the greater bound, the first where both are equal
 abbrev pub better : Option Summit → Summit → Summit

@@ -11,7 +11,7 @@ use Rattle.study_model.specs.declared.words.Sequence.{Sequence}
 use Rattle.study_model.specs.declared.words.Sequence.TheVariants.{Positive, Zero}
 use Rattle.study_model.specs.declared.records.ScanItem.{ScanItem}
 use Rattle.study_model.specs.declared.records.Study.{Study}
-use Rattle.harmscan_core.specs.Scan.{order_of, boxes_in}
+use Rattle.harmscan_core.specs.Scan.{ordering_of, boxes_in}
 use Rattle.harmscan_core.specs.declared.plan.PlannedScan.{PlannedScan}
 use Rattle.harmscan_core.specs.declared.plan.AcceptedStudy.{AcceptedStudy}
 use Rattle.harmscan_core.specs.declared.outcome.Outcome.{Outcome}
@@ -33,7 +33,7 @@ study_alone (Err outcome) = Err outcome
 -- the network of a scan is whole, and its matrix can be assembled with the scanned bus last
 pub record CanScan (study : Study) (scan : ScanItem) : Type 0 where
   pub whole : IsWhole (network_of study scan.network)
-  pub ready : CanAssemble (network_of study scan.network) (network_of study scan.network) scan.bus (order_of (network_of study scan.network) scan.bus)
+  pub ready : CanAssemble (network_of study scan.network) (network_of study scan.network) scan.bus (ordering_of (network_of study scan.network) scan.bus)
 
 -- the boxes that the walk has still to give are those of its scan
 pub record IsPlanned {E : Type 0} (study : Study) (planned : PlannedScan E) : Type 0 where

@@ -2,7 +2,7 @@
 use Rattle.std.specs.Prelude.{ℕ, unsigned_abs, false, List}
 use Rattle.network_theory.specs.Network.{Network}
 use Rattle.network_theory.specs.Reach.{is_live}
-use Rattle.admittance_box.specs.Places.{node_order}
+use Rattle.admittance_box.specs.Places.{node_ordering}
 use Rattle.element_parts.specs.PerUnit.{kv_of}
 use Rattle.sequence_network.specs.Networks.{network_of}
 use Rattle.band_subdivision.specs.Boxes.{BoxTest, boxes_of}
@@ -27,12 +27,12 @@ spec_of study scan = record {
 }
 
 -- the live nodes of a network, inner ones before those of buses, and the scanned one last
-abbrev pub order_of : Network → ℕ → List ℕ
-order_of network driven = node_order network (is_live network) driven
+abbrev pub ordering_of : Network → ℕ → List ℕ
+ordering_of network driven = node_ordering network (is_live network) driven
 
 -- the interval test of a network that is scanned at a node
 abbrev pub network_test : ℕ → ScanSpec → Network → ℕ → BoxTest
-network_test scale spec network driven = pair_test scale (levels_of spec) network network (order_of network driven) nothing
+network_test scale spec network driven = pair_test scale (levels_of spec) network network (ordering_of network driven) nothing
 
 -- the test of the boxes of a scan
 unfoldable pub test_of : Study → ScanItem → BoxTest

@@ -1,5 +1,5 @@
 // The scans of a study: their networks, and the boxes of their bands.
-ghost use Rattle.std.specs.Prelude.{◌≡◌, ◌≤ℤ◌, pos, IfOk, OnOk, unsigned_abs};
+ghost use Rattle.std.specs.Prelude.{◌≡◌, ◌^◌, ◌≤ℤ◌, ◌<ℤ◌, pos, IfOk, OnOk, unsigned_abs};
 ghost use Rattle.network_theory.specs.Live.{Live};
 ghost use Rattle.study_model.specs.Lawful.{IsLawfulScan};
 ghost use Rattle.study_reader.specs.Built.{IsBuilt};
@@ -23,7 +23,7 @@ use study_model::{ScanItem, Sequence, Study};
 /// Micro-orders, as a whole number.
 pub fn micro(order: Decimal) -> u32
     requires low { pos 0 ≤ℤ order }
-    requires high { order ≤ℤ pos 100000000 }
+    requires high { order <ℤ pos (2 ^ 32) }
     ensures { result ≡ unsigned_abs order }
 {
     order.millionths as u32

@@ -4,6 +4,7 @@ ghost use Rattle.std.specs.List.{All};
 ghost use Rattle.complex_interval.specs.Rect.{box_of};
 ghost use Rattle.plain_elimination.specs.Matrix.{Square, nought_box};
 ghost use Rattle.middle_inverse.specs.Inverse.{bind, middle_inverse};
+ghost use Rattle.plain_elimination.specs.declared.limits.TheConstants.{MAX_SIZE};
 
 use crate::columns::eliminate_columns;
 use crate::fault::InverseFault;
@@ -25,17 +26,18 @@ impl<E: Enclosure> Model for MiddleInverse<E> {
     ghost use Rattle.std.specs.List.{All};
     ghost use Rattle.complex_interval.specs.Rect.{box_of};
     ghost use Rattle.plain_elimination.specs.Matrix.{Square};
+    ghost use Rattle.plain_elimination.specs.declared.limits.TheConstants.{MAX_SIZE};
 
     ghost Value = { Square };
 
     ghost view = { λ m. record { size = m.size; rows = map (λ row. drop m.size row) (map (λ r. map (box_of E.ends) r.items) m.rows.items) } };
 
-    ghost invariant = { λ m. record { few : m.size ≤ 4096; count : length m.rows.items ≡ m.size; wide : All (λ r. length r.items ≡ m.size + m.size) m.rows.items } };
+    ghost invariant = { λ m. record { few : m.size ≤ MAX_SIZE; count : length m.rows.items ≡ m.size; wide : All (λ r. length r.items ≡ m.size + m.size) m.rows.items } };
 }
 
 // As many rows of noughts, each twice as wide as their number.
 fn nought_rows<E: Enclosure>(alloc: Global, size: usize) -> Result<Vec<Vec<Rect<E>>>, AllocError>
-    requires { size ≤ 4096 }
+    requires { size ≤ MAX_SIZE }
     ensures { IfOk result (λ rows. map (λ r. map (box_of E.ends) r.items) rows.items ≡ replicate size (replicate (size + size) nought_box)) }
 {
     let mut rows = Vec::new(alloc);
@@ -51,7 +53,7 @@ fn invert_rows<E: Enclosure>(
     rows: &mut [Vec<Rect<E>>],
     matrix: &Matrix<E>,
 ) -> Result<(), InverseFault>
-    requires few { matrix.now.size ≤ 4096 }
+    requires few { matrix.now.size ≤ MAX_SIZE }
     requires count { length rows.old ≡ matrix.now.size }
     requires wide { All (λ r. length r.items ≡ matrix.now.size + matrix.now.size) rows.old }
     ensures value { bind result (λ _. Ok (map (λ row. drop matrix.now.size row) (map (λ r. map (box_of E.ends) r.items) rows.new)))
@@ -65,7 +67,7 @@ fn invert_rows<E: Enclosure>(
 impl<E: Enclosure> MiddleInverse<E> {
     /// A bench for matrices of this size. The only call that takes memory.
     pub fn new(alloc: Global, size: u32) -> Result<MiddleInverse<E>, AllocError>
-        requires { size ≤ 4096 }
+        requires { size ≤ MAX_SIZE }
         ensures { IfOk result (λ m. m ≡ record { size = size; rows = replicate size (replicate size nought_box) }) }
     {
         let rows = nought_rows(alloc, size as usize)?;

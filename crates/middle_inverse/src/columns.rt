@@ -5,6 +5,7 @@ ghost use Rattle.std.specs.Option.{option_map};
 ghost use Rattle.complex_interval.specs.Rect.{box_of};
 ghost use Rattle.middle_inverse.specs.Lists.{and_then, each};
 ghost use Rattle.middle_inverse.specs.Inverse.{bind, in_range, divided_row, cleared_row, by_pivot, by_rows, pivot_first, column_step, columns_from};
+ghost use Rattle.plain_elimination.specs.declared.limits.TheConstants.{MAX_SIZE};
 
 use crate::fault::InverseFault;
 use crate::point::size_of;
@@ -18,7 +19,7 @@ fn step_by<E: Enclosure>(
     below: &mut [Vec<Rect<E>>],
     column: usize,
 ) -> Result<(), InverseFault>
-    requires { column ≤ 4096 }
+    requires { column ≤ MAX_SIZE }
     ensures value { bind result (λ _. Ok (map (λ r. map (box_of E.ends) r.items) above.new ++ map (box_of E.ends) first.new ∷ map (λ r. map (box_of E.ends) r.items) below.new))
         ≡ bind (in_range (slice_get (map (box_of E.ends) first.old) column))
         (by_pivot E.SCALE column (map (λ r. map (box_of E.ends) r.items) above.old) (map (box_of E.ends) first.old) (map (λ r. map (box_of E.ends) r.items) below.old)) }
@@ -64,7 +65,7 @@ fn step_first<E: Enclosure>(
     column: usize,
 ) -> Result<(), InverseFault>
     requires some { 0 < length rest.old }
-    requires few { column ≤ 4096 }
+    requires few { column ≤ MAX_SIZE }
     ensures value { bind result (λ _. Ok (map (λ r. map (box_of E.ends) r.items) above.new ++ map (λ r. map (box_of E.ends) r.items) rest.new))
         ≡ by_rows E.SCALE column (map (λ r. map (box_of E.ends) r.items) above.old) (map (λ r. map (box_of E.ends) r.items) rest.old) }
     ensures wide_above { (w : ℕ) → All (λ r. length r.items ≡ w) above.old → All (λ r. length r.items ≡ w) above.new }
@@ -81,7 +82,7 @@ fn step_rest<E: Enclosure>(
     column: usize,
 ) -> Result<(), InverseFault>
     requires some { 0 < length rest.old }
-    requires few { column ≤ 4096 }
+    requires few { column ≤ MAX_SIZE }
     ensures value { bind result (λ _. Ok (map (λ r. map (box_of E.ends) r.items) above.new ++ map (λ r. map (box_of E.ends) r.items) rest.new))
         ≡ by_rows E.SCALE column (map (λ r. map (box_of E.ends) r.items) above.old) (pivot_first column (map (λ r. map (box_of E.ends) r.items) rest.old)) }
     ensures wide_above { (w : ℕ) → All (λ r. length r.items ≡ w) above.old → All (λ r. length r.items ≡ w) above.new }
@@ -98,7 +99,7 @@ pub fn eliminate_column<E: Enclosure>(
     column: usize,
 ) -> Result<(), InverseFault>
     requires column_in { column < length rows.old }
-    requires few { length rows.old ≤ 4096 }
+    requires few { length rows.old ≤ MAX_SIZE }
     ensures value { bind result (λ _. Ok (map (λ r. map (box_of E.ends) r.items) rows.new))
         ≡ column_step E.SCALE column (map (λ r. map (box_of E.ends) r.items) rows.old) }
     ensures wide { (w : ℕ) → All (λ r. length r.items ≡ w) rows.old → All (λ r. length r.items ≡ w) rows.new }
@@ -109,7 +110,7 @@ pub fn eliminate_column<E: Enclosure>(
 
 /// All columns.
 pub fn eliminate_columns<E: Enclosure>(rows: &mut [Vec<Rect<E>>]) -> Result<(), InverseFault>
-    requires few { length rows.old ≤ 4096 }
+    requires few { length rows.old ≤ MAX_SIZE }
     ensures value { bind result (λ _. Ok (map (λ r. map (box_of E.ends) r.items) rows.new))
         ≡ columns_from E.SCALE 0 (length rows.old) (map (λ r. map (box_of E.ends) r.items) rows.old) }
     ensures wide { (w : ℕ) → All (λ r. length r.items ≡ w) rows.old → All (λ r. length r.items ≡ w) rows.new }

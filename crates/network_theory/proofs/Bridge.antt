@@ -24,56 +24,56 @@ abbrev C : Type 0
 C = Complex
 
 -- members of a list of nodes
-pub among_contains : (m : ℕ) (order : List ℕ) → IsAmong m order → Contains order m
+pub among_contains : (m : ℕ) (ordering : List ℕ) → IsAmong m ordering → Contains ordering m
 among_contains m [] i = absurd i
-among_contains m (n ∷ order) (inl e) = (0, omega arith, sym e)
-among_contains m (n ∷ order) (inr i) = let k = among_contains m order i in (suc k.0, omega (arith, k.1), k.2)
+among_contains m (n ∷ ordering) (inl e) = (0, omega arith, sym e)
+among_contains m (n ∷ ordering) (inr i) = let k = among_contains m ordering i in (suc k.0, omega (arith, k.1), k.2)
 
-contains_go : (m n : ℕ) (order : List ℕ) → ((i : ℕ) → i < length order → get_or order i m ≡ m → IsAmong m order) → (i : ℕ) → i < suc (length order) → get_or (n ∷ order) i m ≡ m → IsAmong m (n ∷ order)
-contains_go m n order more zero l e = inl (sym e)
-contains_go m n order more (suc i) l e = inr (more i (omega arith) e)
+contains_go : (m n : ℕ) (ordering : List ℕ) → ((i : ℕ) → i < length ordering → get_or ordering i m ≡ m → IsAmong m ordering) → (i : ℕ) → i < suc (length ordering) → get_or (n ∷ ordering) i m ≡ m → IsAmong m (n ∷ ordering)
+contains_go m n ordering more zero l e = inl (sym e)
+contains_go m n ordering more (suc i) l e = inr (more i (omega arith) e)
 
-pub contains_among : (m : ℕ) (order : List ℕ) → Contains order m → IsAmong m order
+pub contains_among : (m : ℕ) (ordering : List ℕ) → Contains ordering m → IsAmong m ordering
 contains_among m [] k = absurd (omega (arith, k.1))
-contains_among m (n ∷ order) k = contains_go m n order (λ i l e. contains_among m order (i, l, e)) k.0 k.1 k.2
+contains_among m (n ∷ ordering) k = contains_go m n ordering (λ i l e. contains_among m ordering (i, l, e)) k.0 k.1 k.2
 
-pub is_among : (m : ℕ) (order : List ℕ) → Dec (IsAmong m order)
+pub is_among : (m : ℕ) (ordering : List ℕ) → Dec (IsAmong m ordering)
 is_among m [] = no (λ i. i)
-is_among m (n ∷ order) = elim (same_node m n) [ yes e ↦ yes (inl e) | no q ↦ elim (is_among m order) [ yes i ↦ yes (inr i) | no r ↦ no (λ i. elim i [ inl e ↦ q e | inr j ↦ r j ]) ] ]
+is_among m (n ∷ ordering) = elim (same_node m n) [ yes e ↦ yes (inl e) | no q ↦ elim (is_among m ordering) [ yes i ↦ yes (inr i) | no r ↦ no (λ i. elim i [ inl e ↦ q e | inr j ↦ r j ]) ] ]
 
 -- voltages from a solution
 abbrev pub volt : List ℕ → List C → ℕ → C
 volt [] x n = nought
-volt (m ∷ order) [] n = nought
-volt (m ∷ order) (v ∷ x) n = one_at m n ⊗ v ⊕ volt order x n
+volt (m ∷ ordering) [] n = nought
+volt (m ∷ ordering) (v ∷ x) n = one_at m n ⊗ v ⊕ volt ordering x n
 
-pub volt-none : (order : List ℕ) (x : List C) (n : ℕ) → ¬ IsAmong n order → volt order x n ≈ nought
+pub volt-none : (ordering : List ℕ) (x : List C) (n : ℕ) → ¬ IsAmong n ordering → volt ordering x n ≈ nought
 volt-none [] x n h = same _
-volt-none (m ∷ order) [] n h = same _
-volt-none (m ∷ order) (v ∷ x) n h =
-    linear R (one_at m n ∷ v ∷ volt order x n ∷ []) (join R (weigh R v (one_at-apart m n (λ e. h (inl (sym e))))) (weigh R unit (volt-none order x n (λ i. h (inr i))))) (search reads depth 40 fits 4000) none_left
+volt-none (m ∷ ordering) [] n h = same _
+volt-none (m ∷ ordering) (v ∷ x) n h =
+    linear R (one_at m n ∷ v ∷ volt ordering x n ∷ []) (join R (weigh R v (one_at-apart m n (λ e. h (inl (sym e))))) (weigh R unit (volt-none ordering x n (λ i. h (inr i))))) (search reads depth 40 fits 4000) none_left
 
-pub not_among : (m : ℕ) (order : List ℕ) → AllByRecursion (λ k. m ≢ k) order → ¬ IsAmong m order
+pub not_among : (m : ℕ) (ordering : List ℕ) → AllByRecursion (λ k. m ≢ k) ordering → ¬ IsAmong m ordering
 not_among m [] h i = i
-not_among m (k ∷ order) h (inl e) = h.0 e
-not_among m (k ∷ order) h (inr i) = not_among m order h.1 i
+not_among m (k ∷ ordering) h (inl e) = h.0 e
+not_among m (k ∷ ordering) h (inr i) = not_among m ordering h.1 i
 
-volt-later : (m : ℕ) (v : C) (order : List ℕ) (x : List C) (ks : List ℕ) (ys : List C) → AllByRecursion (λ k. m ≢ k) ks → AllZip ◌≈◌ (map (volt order x) ks) ys → AllZip ◌≈◌ (map (volt (m ∷ order) (v ∷ x)) ks) ys
-volt-later m v order x [] [] a h = h
-volt-later m v order x [] (y ∷ ys) a h = absurd h
-volt-later m v order x (k ∷ ks) [] a h = absurd h
-volt-later m v order x (k ∷ ks) (y ∷ ys) a h = (
-  linear R (one_at m k ∷ v ∷ volt order x k ∷ y ∷ []) (join R (weigh R v (one_at-apart m k a.0)) (weigh R unit h.0)) (search reads depth 40 fits 4000) none_left,
-  volt-later m v order x ks ys a.1 h.1,
+volt-later : (m : ℕ) (v : C) (ordering : List ℕ) (x : List C) (ks : List ℕ) (ys : List C) → AllByRecursion (λ k. m ≢ k) ks → AllZip ◌≈◌ (map (volt ordering x) ks) ys → AllZip ◌≈◌ (map (volt (m ∷ ordering) (v ∷ x)) ks) ys
+volt-later m v ordering x [] [] a h = h
+volt-later m v ordering x [] (y ∷ ys) a h = absurd h
+volt-later m v ordering x (k ∷ ks) [] a h = absurd h
+volt-later m v ordering x (k ∷ ks) (y ∷ ys) a h = (
+  linear R (one_at m k ∷ v ∷ volt ordering x k ∷ y ∷ []) (join R (weigh R v (one_at-apart m k a.0)) (weigh R unit h.0)) (search reads depth 40 fits 4000) none_left,
+  volt-later m v ordering x ks ys a.1 h.1,
 )
 
-pub volt-map : (order : List ℕ) (x : List C) → IsDistinct order → length x ≡ length order → AllZip ◌≈◌ (map (volt order x) order) x
+pub volt-map : (ordering : List ℕ) (x : List C) → IsDistinct ordering → length x ≡ length ordering → AllZip ◌≈◌ (map (volt ordering x) ordering) x
 volt-map [] [] d e = tt
 volt-map [] (v ∷ x) d e = absurd (omega arith)
-volt-map (m ∷ order) [] d e = absurd (omega arith)
-volt-map (m ∷ order) (v ∷ x) d e = (
-  linear R (one_at m m ∷ v ∷ volt order x m ∷ []) (join R (weigh R v (one_at-same m)) (weigh R unit (volt-none order x m (not_among m order d.0)))) (search reads depth 40 fits 4000) none_left,
-  volt-later m v order x order x d.0 (volt-map order x d.1 (omega arith)),
+volt-map (m ∷ ordering) [] d e = absurd (omega arith)
+volt-map (m ∷ ordering) (v ∷ x) d e = (
+  linear R (one_at m m ∷ v ∷ volt ordering x m ∷ []) (join R (weigh R v (one_at-same m)) (weigh R unit (volt-none ordering x m (not_among m ordering d.0)))) (search reads depth 40 fits 4000) none_left,
+  volt-later m v ordering x ordering x d.0 (volt-map ordering x d.1 (omega arith)),
 )
 
 -- the nodal matrix is square
@@ -88,15 +88,15 @@ drop-zero V h (t ∷ taps) = step _ _ _ (h t.node) (drop-zero V h taps)
     step : (c v d : C) → v ≈ nought → d ≈ nought → c ⊗ v ⊕ d ≈ nought
     step c v d p q = linear R (c ∷ v ∷ d ∷ []) (join R (weigh R c p) (weigh R unit q)) (search reads depth 40 fits 4000) none_left
 
-module _ (network : Network) (h : Order) (parts : List Part) (order : List ℕ) (rows : List (List C)) (S : IsNodalSystem network h parts order rows) where
-  live_among : (n : ℕ) → Live network n → IsAmong n order
-  live_among n l = contains_among n order ((S.listed.live n).0 l)
+module _ (network : Network) (h : Order) (parts : List Part) (ordering : List ℕ) (rows : List (List C)) (S : IsNodalSystem network h parts ordering rows) where
+  live_among : (n : ℕ) → Live network n → IsAmong n ordering
+  live_among n l = contains_among n ordering ((S.listed.live n).0 l)
 
-  among_live : (n : ℕ) → IsAmong n order → Live network n
-  among_live n i = (S.listed.live n).1 (among_contains n order i)
+  among_live : (n : ℕ) → IsAmong n ordering → Live network n
+  among_live n i = (S.listed.live n).1 (among_contains n ordering i)
 
   pub is_live : (n : ℕ) → Dec (Live network n)
-  is_live n = elim (is_among n order) [ yes i ↦ yes (among_live n i) | no q ↦ no (λ l. q (live_among n l)) ]
+  is_live n = elim (is_among n ordering) [ yes i ↦ yes (among_live n i) | no q ↦ no (λ l. q (live_among n l)) ]
 
   abbrev pub IsDead : (ℕ → C) → Type 0
   IsDead V = (n : ℕ) → ¬ Live network n → V n ≈ nought
@@ -104,14 +104,14 @@ module _ (network : Network) (h : Order) (parts : List Part) (order : List ℕ) 
   abbrev pub drops : (ℕ → C) → Branch → C
   drops V b = drop V b.taps
 
-  picks : (V : ℕ → C) → IsDead V → (m : ℕ) → pick m V order ≈ V m
-  picks V d m = elim (is_among m order) [
-    | yes i ↦ pick-one m V order S.listed.distinct i
-    | no q ↦ let z = d m (λ l. q (live_among m l)) in next (pick-zero m V order z) (back z)
+  picks : (V : ℕ → C) → IsDead V → (m : ℕ) → pick m V ordering ≈ V m
+  picks V d m = elim (is_among m ordering) [
+    | yes i ↦ pick-one m V ordering S.listed.distinct i
+    | no q ↦ let z = d m (λ l. q (live_among m l)) in next (pick-zero m V ordering z) (back z)
   ]
 
-  row-drops : (V : ℕ → C) → IsDead V → (n : ℕ) (row : List C) → AllZip (λ n' entry. entry ≈ nodal_entry parts n n') order row → dot complex_numbers row (map V order) ≈ carried parts (drops V) n
-  row-drops V d n row e = next (row-carried parts n V order row e) (carried-along parts (λ b. spread b.taps V order) (drops V) n (λ b. back (spread-drop V order (picks V d) b.taps)))
+  row-drops : (V : ℕ → C) → IsDead V → (n : ℕ) (row : List C) → AllZip (λ n' entry. entry ≈ nodal_entry parts n n') ordering row → dot complex_numbers row (map V ordering) ≈ carried parts (drops V) n
+  row-drops V d n row e = next (row-carried parts n V ordering row e) (carried-along parts (λ b. spread b.taps V ordering) (drops V) n (λ b. back (spread-drop V ordering (picks V d) b.taps)))
 
   inside : (b : Branch) → Contains (flatten parts) b → Contains network.branches b
   inside b = subst (λ bs. Contains bs b) (sym S.admitted.all)
@@ -146,10 +146,10 @@ module _ (network : Network) (h : Order) (parts : List Part) (order : List ℕ) 
 
   -- rows of some of the nodes
   abbrev RowsOf : List ℕ → List (List C) → Type 0
-  RowsOf nodes rs = AllZip (λ n row. AllZip (λ n' entry. entry ≈ nodal_entry parts n n') order row) nodes rs
+  RowsOf nodes rs = AllZip (λ n row. AllZip (λ n' entry. entry ≈ nodal_entry parts n n') ordering row) nodes rs
 
   -- the voltages of an exact state solve the nodal equations
-  solves_rows : (J : ℕ → C) (s : State) → IsExactState network h J s → (nodes : List ℕ) (rs : List (List C)) → RowsOf nodes rs → ((n : ℕ) → IsAmong n nodes → Live network n) → Solves complex_numbers rs (map s.voltage order) (map J nodes)
+  solves_rows : (J : ℕ → C) (s : State) → IsExactState network h J s → (nodes : List ℕ) (rs : List (List C)) → RowsOf nodes rs → ((n : ℕ) → IsAmong n nodes → Live network n) → Solves complex_numbers rs (map s.voltage ordering) (map J nodes)
   solves_rows J s x [] [] e l = tt
   solves_rows J s x [] (r ∷ rs) e l = absurd e
   solves_rows J s x (n ∷ nodes) [] e l = absurd e
@@ -158,11 +158,11 @@ module _ (network : Network) (h : Order) (parts : List Part) (order : List ℕ) 
     solves_rows J s x nodes rs e.1 (λ m i. l m (inr i)),
   )
 
-  pub state_solves : (J : ℕ → C) (s : State) → IsExactState network h J s → Solves complex_numbers rows (map s.voltage order) (map J order)
-  state_solves J s x = solves_rows J s x order rows S.entries among_live
+  pub state_solves : (J : ℕ → C) (s : State) → IsExactState network h J s → Solves complex_numbers rows (map s.voltage ordering) (map J ordering)
+  state_solves J s x = solves_rows J s x ordering rows S.entries among_live
 
   -- and a solution is an exact state
-  pub solution_carried : (J V : ℕ → C) → IsDead V → (nodes : List ℕ) (rs : List (List C)) → RowsOf nodes rs → Solves complex_numbers rs (map V order) (map J nodes) → (n : ℕ) → IsAmong n nodes → carried parts (drops V) n ≈ J n
+  pub solution_carried : (J V : ℕ → C) → IsDead V → (nodes : List ℕ) (rs : List (List C)) → RowsOf nodes rs → Solves complex_numbers rs (map V ordering) (map J nodes) → (n : ℕ) → IsAmong n nodes → carried parts (drops V) n ≈ J n
   solution_carried J V d [] rs e s n i = absurd i
   solution_carried J V d (m ∷ nodes) [] e s n i = absurd e
   solution_carried J V d (m ∷ nodes) (r ∷ rs) e s n (inl q) =
@@ -172,7 +172,7 @@ module _ (network : Network) (h : Order) (parts : List Part) (order : List ℕ) 
   abbrev pub state_of : (ℕ → C) → State
   state_of V = record { voltage = V; current = current_of parts (drops V) }
 
-  pub solution_is_state : (J V : ℕ → C) → IsDead V → Solves complex_numbers rows (map V order) (map J order) → IsExactState network h J (state_of V)
+  pub solution_is_state : (J V : ℕ → C) → IsDead V → Solves complex_numbers rows (map V ordering) (map J ordering) → IsExactState network h J (state_of V)
   solution_is_state J V d s = record {
     dead = d;
     laws = λ i b e c.
@@ -180,7 +180,7 @@ module _ (network : Network) (h : Order) (parts : List Part) (order : List ℕ) 
         (kept network h I (drops V) parts 0 S.admitted.each (λ j. subst (λ k. I k ≈ I j) (sym (plain j)) (same (I j))) i b (subst (λ bs. slice_get bs i ≡ Some b) S.admitted.all e) c);
     sums = λ n l.
         next (subst (λ bs. leaving bs I n ≈ carried parts (drops V) n) (sym S.admitted.all) (leaving-current_of parts (drops V) n))
-        (solution_carried J V d order rows S.entries s n (live_among n l));
+        (solution_carried J V d ordering rows S.entries s n (live_among n l));
   }
     where
       I : ℕ → C

@@ -119,71 +119,71 @@ entry-is (p ∷ ps) n n' = add_same (part_entry-is p n n') (entry-is ps n n')
 -- the drop of a branch, node by node of a list
 abbrev pub spread : List Tap → (ℕ → C) → List ℕ → C
 spread taps V [] = nought
-spread taps V (n ∷ order) = ratio_at taps n ⊗ V n ⊕ spread taps V order
+spread taps V (n ∷ ordering) = ratio_at taps n ⊗ V n ⊕ spread taps V ordering
 
 -- a row of the nodal matrix gives, at voltages, the currents that the parts carry out of its node
-pub row-carried : (ps : List Part) (n : ℕ) (V : ℕ → C) (order : List ℕ) (row : List C) → AllZip (λ n' entry. entry ≈ nodal_entry ps n n') order row
-    → dot complex_numbers row (map V order) ≈ carried ps (λ b. spread b.taps V order) n
+pub row-carried : (ps : List Part) (n : ℕ) (V : ℕ → C) (ordering : List ℕ) (row : List C) → AllZip (λ n' entry. entry ≈ nodal_entry ps n n') ordering row
+    → dot complex_numbers row (map V ordering) ≈ carried ps (λ b. spread b.taps V ordering) n
 row-carried ps n V [] [] h = back (carried-nought ps n)
 row-carried ps n V [] (e ∷ row) h = absurd h
-row-carried ps n V (m ∷ order) [] h = absurd h
-row-carried ps n V (m ∷ order) (e ∷ row) h =
+row-carried ps n V (m ∷ ordering) [] h = absurd h
+row-carried ps n V (m ∷ ordering) (e ∷ row) h =
     let f : Branch → C = λ b. ratio_at b.taps m in
-    let g : Branch → C = λ b. spread b.taps V order in
-    next (add_same (mul_same (next h.0 (entry-is ps n m)) (same (V m))) (row-carried ps n V order row h.1)) (back (carried-sum ps f g (V m) n))
+    let g : Branch → C = λ b. spread b.taps V ordering in
+    next (add_same (mul_same (next h.0 (entry-is ps n m)) (same (V m))) (row-carried ps n V ordering row h.1)) (back (carried-sum ps f g (V m) n))
 
 -- the voltage of a node, picked from a list
 abbrev pub pick : ℕ → (ℕ → C) → List ℕ → C
 pick m V [] = nought
-pick m V (n ∷ order) = one_at m n ⊗ V n ⊕ pick m V order
+pick m V (n ∷ ordering) = one_at m n ⊗ V n ⊕ pick m V ordering
 
-pick-none : (m : ℕ) (V : ℕ → C) (order : List ℕ) → AllByRecursion (λ n. m ≢ n) order → pick m V order ≈ nought
+pick-none : (m : ℕ) (V : ℕ → C) (ordering : List ℕ) → AllByRecursion (λ n. m ≢ n) ordering → pick m V ordering ≈ nought
 pick-none m V [] h = same _
-pick-none m V (n ∷ order) h =
-    linear R (one_at m n ∷ V n ∷ pick m V order ∷ []) (join R (weigh R (V n) (one_at-apart m n h.0)) (weigh R unit (pick-none m V order h.1))) (search reads depth 40 fits 4000) none_left
+pick-none m V (n ∷ ordering) h =
+    linear R (one_at m n ∷ V n ∷ pick m V ordering ∷ []) (join R (weigh R (V n) (one_at-apart m n h.0)) (weigh R unit (pick-none m V ordering h.1))) (search reads depth 40 fits 4000) none_left
 
-pub pick-zero : (m : ℕ) (V : ℕ → C) (order : List ℕ) → V m ≈ nought → pick m V order ≈ nought
+pub pick-zero : (m : ℕ) (V : ℕ → C) (ordering : List ℕ) → V m ≈ nought → pick m V ordering ≈ nought
 pick-zero m V [] h = same _
-pick-zero m V (n ∷ order) h =
+pick-zero m V (n ∷ ordering) h =
     let e : one_at m n ⊗ V n ≈ nought = elim (same_node m n) [
       | yes q ↦ next (mul_same (same _) (subst (λ k. V k ≈ nought) q h)) (ring R (one_at m n ∷ []) (search reads depth 40 fits 4000) none_left)
       | no q ↦ next (mul_same (one_at-apart m n q) (same _)) (ring R (V n ∷ []) (search reads depth 40 fits 4000) none_left)
     ] in
-    next (add_same e (pick-zero m V order h)) (ring R [] (search reads depth 40 fits 4000) none_left)
+    next (add_same e (pick-zero m V ordering h)) (ring R [] (search reads depth 40 fits 4000) none_left)
 
 -- a member of a list
 abbrev pub IsAmong : ℕ → List ℕ → Type 0
 IsAmong m [] = ⊥
-IsAmong m (n ∷ order) = (m ≡ n) ⊎ IsAmong m order
+IsAmong m (n ∷ ordering) = (m ≡ n) ⊎ IsAmong m ordering
 
-pub pick-one : (m : ℕ) (V : ℕ → C) (order : List ℕ) → IsDistinct order → IsAmong m order → pick m V order ≈ V m
+pub pick-one : (m : ℕ) (V : ℕ → C) (ordering : List ℕ) → IsDistinct ordering → IsAmong m ordering → pick m V ordering ≈ V m
 pick-one m V [] d i = absurd i
-pick-one m V (n ∷ order) d (inl e) =
-    let a : AllByRecursion (λ k. m ≢ k) order = subst (λ j. AllByRecursion (λ k. j ≢ k) order) (sym e) d.0 in
+pick-one m V (n ∷ ordering) d (inl e) =
+    let a : AllByRecursion (λ k. m ≢ k) ordering = subst (λ j. AllByRecursion (λ k. j ≢ k) ordering) (sym e) d.0 in
     let o : one_at m n ≈ unit = subst (λ j. one_at m j ≈ unit) e (one_at-same m) in
     let v : V n ≈ V m = subst (λ j. V j ≈ V m) e (same (V m)) in
-    linear R (one_at m n ∷ V n ∷ V m ∷ pick m V order ∷ []) (join R (weigh R (V n) o) (join R (weigh R unit v) (weigh R unit (pick-none m V order a)))) (search reads depth 40 fits 4000) none_left
-pick-one m V (n ∷ order) d (inr i) =
-    let apart : ¬ (m ≡ n) = λ e. among-apart order d.0 i (sym e) in
-    linear R (one_at m n ∷ V n ∷ V m ∷ pick m V order ∷ []) (join R (weigh R (V n) (one_at-apart m n apart)) (weigh R unit (pick-one m V order d.1 i))) (search reads depth 40 fits 4000) none_left
+    linear R (one_at m n ∷ V n ∷ V m ∷ pick m V ordering ∷ []) (join R (weigh R (V n) o) (join R (weigh R unit v) (weigh R unit (pick-none m V ordering a)))) (search reads depth 40 fits 4000) none_left
+pick-one m V (n ∷ ordering) d (inr i) =
+    let apart : ¬ (m ≡ n) = λ e. among-apart ordering d.0 i (sym e) in
+    linear R (one_at m n ∷ V n ∷ V m ∷ pick m V ordering ∷ []) (join R (weigh R (V n) (one_at-apart m n apart)) (weigh R unit (pick-one m V ordering d.1 i))) (search reads depth 40 fits 4000) none_left
   where
-    among-apart : (order : List ℕ) → AllByRecursion (λ k. n ≢ k) order → IsAmong m order → ¬ (n ≡ m)
+    among-apart : (ordering : List ℕ) → AllByRecursion (λ k. n ≢ k) ordering → IsAmong m ordering → ¬ (n ≡ m)
     among-apart [] h i = absurd i
-    among-apart (k ∷ order) h (inl e) = λ q. h.0 (q ∙ e)
-    among-apart (k ∷ order) h (inr i) = among-apart order h.1 i
+    among-apart (k ∷ ordering) h (inl e) = λ q. h.0 (q ∙ e)
+    among-apart (k ∷ ordering) h (inr i) = among-apart ordering h.1 i
 
-spread-nil : (V : ℕ → C) (order : List ℕ) → spread [] V order ≈ nought
+spread-nil : (V : ℕ → C) (ordering : List ℕ) → spread [] V ordering ≈ nought
 spread-nil V [] = same _
-spread-nil V (n ∷ order) = linear R (V n ∷ spread [] V order ∷ []) (weigh R unit (spread-nil V order)) (search reads depth 40 fits 4000) none_left
+spread-nil V (n ∷ ordering) = linear R (V n ∷ spread [] V ordering ∷ []) (weigh R unit (spread-nil V ordering)) (search reads depth 40 fits 4000) none_left
 
-spread-cons : (t : Tap) (taps : List Tap) (V : ℕ → C) (order : List ℕ) → spread (t ∷ taps) V order ≈ real t.ratio ⊗ pick t.node V order ⊕ spread taps V order
+spread-cons : (t : Tap) (taps : List Tap) (V : ℕ → C) (ordering : List ℕ) → spread (t ∷ taps) V ordering ≈ real t.ratio ⊗ pick t.node V ordering ⊕ spread taps V ordering
 spread-cons t taps V [] = ring R (real t.ratio ∷ []) (search reads depth 40 fits 4000) none_left
-spread-cons t taps V (n ∷ order) =
-    linear R (real t.ratio ∷ one_at t.node n ∷ ratio_at taps n ∷ V n ∷ pick t.node V order ∷ spread taps V order ∷ spread (t ∷ taps) V order ∷ [])
-    (weigh R unit (spread-cons t taps V order)) (search reads depth 40 fits 4000) none_left
+spread-cons t taps V (n ∷ ordering) =
+    linear R (real t.ratio ∷ one_at t.node n ∷ ratio_at taps n ∷ V n ∷ pick t.node V ordering ∷ spread taps V ordering ∷ spread (t ∷ taps) V ordering ∷ [])
+    (weigh R unit (spread-cons t taps V ordering)) (search reads depth 40 fits 4000) none_left
 
 -- a drop is spread over a list of the nodes whose voltages aren't zero
-pub spread-drop : (V : ℕ → C) (order : List ℕ) → ((m : ℕ) → pick m V order ≈ V m) → (taps : List Tap) → drop V taps ≈ spread taps V order
-spread-drop V order h [] = back (spread-nil V order)
-spread-drop V order h (t ∷ taps) =
-    next (add_same (mul_same (same _) (back (h t.node))) (spread-drop V order h taps)) (back (spread-cons t taps V order))
+pub spread-drop : (V : ℕ → C) (ordering : List ℕ) → ((m : ℕ) → pick m V ordering ≈ V m) → (taps : List Tap) → drop V taps ≈ spread taps V ordering
+spread-drop V ordering h [] = back (spread-nil V ordering)
+spread-drop V ordering h (t ∷ taps) =
+    next (add_same (mul_same (same _) (back (h t.node))) (spread-drop V ordering h taps)) (back (spread-cons t taps V ordering))

@@ -166,61 +166,61 @@ injective_from_one n rows right o = record {
       zero_summand o.solution x o.solution e z (zip_same o.solution);
 }
 
-module _ (network : Network) (h : Order) (parts : List Part) (order : List ℕ) (rows : List (List C)) (S : IsNodalSystem network h parts order rows) where
-  rows_length : length rows ≡ length order
-  rows_length = zip_length (λ n row. AllZip (λ n' entry. entry ≈ nodal_entry parts n n') order row) order rows S.entries
+module _ (network : Network) (h : Order) (parts : List Part) (ordering : List ℕ) (rows : List (List C)) (S : IsNodalSystem network h parts ordering rows) where
+  rows_length : length rows ≡ length ordering
+  rows_length = zip_length (λ n row. AllZip (λ n' entry. entry ≈ nodal_entry parts n n') ordering row) ordering rows S.entries
 
-  row_widths : (nodes : List ℕ) (rs : List (List C)) → AllZip (λ n row. AllZip (λ n' entry. entry ≈ nodal_entry parts n n') order row) nodes rs → AllByRecursion (λ r. length r ≡ length order) rs
+  row_widths : (nodes : List ℕ) (rs : List (List C)) → AllZip (λ n row. AllZip (λ n' entry. entry ≈ nodal_entry parts n n') ordering row) nodes rs → AllByRecursion (λ r. length r ≡ length ordering) rs
   row_widths [] [] e = tt
   row_widths [] (r ∷ rs) e = absurd e
   row_widths (n ∷ nodes) [] e = absurd e
-  row_widths (n ∷ nodes) (r ∷ rs) e = (zip_length (λ n' entry. entry ≈ nodal_entry parts n n') order r e.0, row_widths nodes rs e.1)
+  row_widths (n ∷ nodes) (r ∷ rs) e = (zip_length (λ n' entry. entry ≈ nodal_entry parts n n') ordering r e.0, row_widths nodes rs e.1)
 
   -- the nodal matrix is square
-  pub nodal_square : IsSquare complex_numbers (length order) rows
-  nodal_square = record { count = rows_length; widths = row_widths order rows S.entries }
+  pub nodal_square : IsSquare complex_numbers (length ordering) rows
+  nodal_square = record { count = rows_length; widths = row_widths ordering rows S.entries }
 
-  dead_volt : (x : List C) → B.IsDead network h parts order rows S (B.volt order x)
-  dead_volt x n l = B.volt-none order x n (λ i. l ((S.listed.live n).1 (B.among_contains n order i)))
+  dead_volt : (x : List C) → B.IsDead network h parts ordering rows S (B.volt ordering x)
+  dead_volt x n l = B.volt-none ordering x n (λ i. l ((S.listed.live n).1 (B.among_contains n ordering i)))
 
   -- a solution is an exact state whose voltages are its entries
-  pub solved_state : (J : ℕ → C) (x : List C) → length x ≡ length order → Solves complex_numbers rows x (map J order) → IsExactState network h J (B.state_of network h parts order rows S (B.volt order x))
+  pub solved_state : (J : ℕ → C) (x : List C) → length x ≡ length ordering → Solves complex_numbers rows x (map J ordering) → IsExactState network h J (B.state_of network h parts ordering rows S (B.volt ordering x))
   solved_state J x l s =
-      B.solution_is_state network h parts order rows S J (B.volt order x) (dead_volt x)
-      (solves_along rows x (map (B.volt order x) order) (map J order) (zip_back (map (B.volt order x) order) x (B.volt-map order x S.listed.distinct l)) s)
+      B.solution_is_state network h parts ordering rows S J (B.volt ordering x) (dead_volt x)
+      (solves_along rows x (map (B.volt ordering x) ordering) (map J ordering) (zip_back (map (B.volt ordering x) ordering) x (B.volt-map ordering x S.listed.distinct l)) s)
 
   -- an injective matrix has only the zero state
-  pub only_zero_state : IsInjective complex_numbers (length order) rows → HasOnlyZeroState network h
+  pub only_zero_state : IsInjective complex_numbers (length ordering) rows → HasOnlyZeroState network h
   only_zero_state inj = record {
     zero = λ s x.
-        let z = inj.only (map s.voltage order) (B.length-map s.voltage order) (solves_annuls rows (map s.voltage order) order (B.state_solves network h parts order rows S no_injection s x)) in
-        let live : (n : ℕ) → Live network n → s.voltage n ≈ nought = λ n l. zero_at s.voltage order z n (B.contains_among n order ((S.listed.live n).0 l)) in
-        let all : (n : ℕ) → s.voltage n ≈ nought = λ n. elim (B.is_live network h parts order rows S n) [ yes l ↦ live n l | no q ↦ x.dead n q ] in
+        let z = inj.only (map s.voltage ordering) (B.length-map s.voltage ordering) (solves_annuls rows (map s.voltage ordering) ordering (B.state_solves network h parts ordering rows S no_injection s x)) in
+        let live : (n : ℕ) → Live network n → s.voltage n ≈ nought = λ n l. zero_at s.voltage ordering z n (B.contains_among n ordering ((S.listed.live n).0 l)) in
+        let all : (n : ℕ) → s.voltage n ≈ nought = λ n. elim (B.is_live network h parts ordering rows S n) [ yes l ↦ live n l | no q ↦ x.dead n q ] in
         record {
           voltages = live;
-          currents = λ i b e c. next (B.state-current network h parts order rows S no_injection s x i b e c) (current_of-zero parts (λ o. drop s.voltage o.taps) (λ o. B.drop-zero s.voltage all o.taps) i);
+          currents = λ i b e c. next (B.state-current network h parts ordering rows S no_injection s x i b e c) (current_of-zero parts (λ o. drop s.voltage o.taps) (λ o. B.drop-zero s.voltage all o.taps) i);
         };
   }
 
   -- and only then
-  pub injective_matrix : HasOnlyZeroState network h → IsInjective complex_numbers (length order) rows
+  pub injective_matrix : HasOnlyZeroState network h → IsInjective complex_numbers (length ordering) rows
   injective_matrix o = record {
     only = λ x l a.
-        let z = o.zero _ (solved_state no_injection x l (annuls_solves rows x order rows_length a)) in
-        zero_list (map (B.volt order x) order) x (B.volt-map order x S.listed.distinct l)
-        (map_zero (B.volt order x) order (λ n i. z.voltages n ((S.listed.live n).1 (B.among_contains n order i))));
+        let z = o.zero _ (solved_state no_injection x l (annuls_solves rows x ordering rows_length a)) in
+        zero_list (map (B.volt ordering x) ordering) x (B.volt-map ordering x S.listed.distinct l)
+        (map_zero (B.volt ordering x) ordering (λ n i. z.voltages n ((S.listed.live n).1 (B.among_contains n ordering i))));
   }
 
   -- the driving-point impedance, where the matrix has a complement y other than zero
-  pub impedance : (n k : ℕ) (y Z : C) → IsLast order n k → IsDriven complex_numbers n rows y → Z ⊗ y ≈ unit → IsDrivingPoint network h k Z
+  pub impedance : (n k : ℕ) (y Z : C) → IsLast ordering n k → IsDriven complex_numbers n rows y → Z ⊗ y ≈ unit → IsDrivingPoint network h k Z
   impedance n k y Z last d e =
-      let l : length d.list ≡ length order = d.count ∙ sym last.count in
-      let below : n < length order = subst (λ m. n < m) (sym last.count) (omega arith) in
-      let s = unit_solves rows d.list order n k (rows_length ∙ last.count) last.count S.listed.distinct last.last d.annuls d.last in
-      let v : B.volt order d.list k ≈ get_or d.list n nought = subst (λ j. B.volt order d.list j ≈ get_or d.list n nought) last.last (map_at (B.volt order d.list) order d.list n (B.volt-map order d.list S.listed.distinct l) below) in
+      let l : length d.list ≡ length ordering = d.count ∙ sym last.count in
+      let below : n < length ordering = subst (λ m. n < m) (sym last.count) (omega arith) in
+      let s = unit_solves rows d.list ordering n k (rows_length ∙ last.count) last.count S.listed.distinct last.last d.annuls d.last in
+      let v : B.volt ordering d.list k ≈ get_or d.list n nought = subst (λ j. B.volt ordering d.list j ≈ get_or d.list n nought) last.last (map_at (B.volt ordering d.list) ordering d.list n (B.volt-map ordering d.list S.listed.distinct l) below) in
       record {
-        live = (S.listed.live k).1 (B.among_contains k order (subst (λ j. IsAmong j order) last.last (at_among order n below)));
-        state = B.state_of network h parts order rows S (B.volt order d.list);
+        live = (S.listed.live k).1 (B.among_contains k ordering (subst (λ j. IsAmong j ordering) last.last (at_among ordering n below)));
+        state = B.state_of network h parts ordering rows S (B.volt ordering d.list);
         exact = solved_state (unit_at k) d.list l s;
         at_node = next v (same_inverse (get_or d.list n nought) Z y d.ends e);
         only_zero = only_zero_state (subst (λ m. IsInjective complex_numbers m rows) (sym last.count) d.injective);
@@ -230,31 +230,31 @@ module _ (network : Network) (h : Order) (parts : List Part) (order : List ℕ) 
       same_inverse u w y p q = linear R (u ∷ w ∷ y ∷ []) (join R (weigh R (minus u) q) (weigh R w p)) (search reads depth 40 fits 4000) none_left
 
   -- the driving-point impedance, where the unit right side at the last row has one solution: its last entry
-  pub impedance_of_solution : (n k : ℕ) → IsLast order n k → (one : HasOneSolution complex_numbers (length order) rows (map (unit_at k) order)) → IsDrivingPoint network h k (get_or one.solution n nought)
+  pub impedance_of_solution : (n k : ℕ) → IsLast ordering n k → (one : HasOneSolution complex_numbers (length ordering) rows (map (unit_at k) ordering)) → IsDrivingPoint network h k (get_or one.solution n nought)
   impedance_of_solution n k last one =
-      let below : n < length order = subst (λ m. n < m) (sym last.count) (omega arith) in
+      let below : n < length ordering = subst (λ m. n < m) (sym last.count) (omega arith) in
       record {
-        live = (S.listed.live k).1 (B.among_contains k order (subst (λ j. IsAmong j order) last.last (at_among order n below)));
-        state = B.state_of network h parts order rows S (B.volt order one.solution);
+        live = (S.listed.live k).1 (B.among_contains k ordering (subst (λ j. IsAmong j ordering) last.last (at_among ordering n below)));
+        state = B.state_of network h parts ordering rows S (B.volt ordering one.solution);
         exact = solved_state (unit_at k) one.solution one.count one.solves;
-        at_node = subst (λ j. B.volt order one.solution j ≈ get_or one.solution n nought) last.last (map_at (B.volt order one.solution) order one.solution n (B.volt-map order one.solution S.listed.distinct one.count) below);
-        only_zero = only_zero_state (injective_from_one (length order) rows (map (unit_at k) order) one);
+        at_node = subst (λ j. B.volt ordering one.solution j ≈ get_or one.solution n nought) last.last (map_at (B.volt ordering one.solution) ordering one.solution n (B.volt-map ordering one.solution S.listed.distinct one.count) below);
+        only_zero = only_zero_state (injective_from_one (length ordering) rows (map (unit_at k) ordering) one);
       }
 
   -- the voltages of each exact state for J are the one solution
-  pub voltages_of_solution : (J : ℕ → C) (one : HasOneSolution complex_numbers (length order) rows (map J order)) (s : State) → IsExactState network h J s → AllZip ◌≈◌ (map s.voltage order) one.solution
-  voltages_of_solution J one s x = one.only (map s.voltage order) (B.length-map s.voltage order) (B.state_solves network h parts order rows S J s x)
+  pub voltages_of_solution : (J : ℕ → C) (one : HasOneSolution complex_numbers (length ordering) rows (map J ordering)) (s : State) → IsExactState network h J s → AllZip ◌≈◌ (map s.voltage ordering) one.solution
+  voltages_of_solution J one s x = one.only (map s.voltage ordering) (B.length-map s.voltage ordering) (B.state_solves network h parts ordering rows S J s x)
 
   -- conversely, an impedance is the last entry of each solution for the unit right side
-  pub solution_of_impedance : (n k : ℕ) (Z : C) → IsLast order n k → IsDrivingPoint network h k Z → (x : List C) → length x ≡ length order → Solves complex_numbers rows x (map (unit_at k) order) → get_or x n nought ≈ Z
+  pub solution_of_impedance : (n k : ℕ) (Z : C) → IsLast ordering n k → IsDrivingPoint network h k Z → (x : List C) → length x ≡ length ordering → Solves complex_numbers rows x (map (unit_at k) ordering) → get_or x n nought ≈ Z
   solution_of_impedance n k Z last d x l s =
-      let below : n < length order = subst (λ m. n < m) (sym last.count) (omega arith) in
+      let below : n < length ordering = subst (λ m. n < m) (sym last.count) (omega arith) in
       let w = get_or x n nought in
       let p : IsDrivingPoint network h k w = record {
         live = d.live;
-        state = B.state_of network h parts order rows S (B.volt order x);
+        state = B.state_of network h parts ordering rows S (B.volt ordering x);
         exact = solved_state (unit_at k) x l s;
-        at_node = subst (λ j. B.volt order x j ≈ w) last.last (map_at (B.volt order x) order x n (B.volt-map order x S.listed.distinct l) below);
+        at_node = subst (λ j. B.volt ordering x j ≈ w) last.last (map_at (B.volt ordering x) ordering x n (B.volt-map ordering x S.listed.distinct l) below);
         only_zero = d.only_zero;
       } in
       O.only_impedance network h k w Z p d

@@ -117,89 +117,89 @@ module _ (network : Network) (k : ℕ) (e : Ratio) where
     -- the entry of a list that stands where node k does
     abbrev entry_at : List ℕ → List C → C
     entry_at [] x = nought
-    entry_at (m ∷ order) [] = nought
-    entry_at (m ∷ order) (v ∷ x) = one_at k m ⊗ v ⊕ entry_at order x
+    entry_at (m ∷ ordering) [] = nought
+    entry_at (m ∷ ordering) (v ∷ x) = one_at k m ⊗ v ⊕ entry_at ordering x
 
     abbrev RowOf : List Part → ℕ → List ℕ → List C → Type 0
-    RowOf ps n order row = AllZip (λ n' entry. entry ≈ nodal_entry ps n n') order row
+    RowOf ps n ordering row = AllZip (λ n' entry. entry ≈ nodal_entry ps n n') ordering row
 
-    row-more : (ps : List Part) (n : ℕ) (order : List ℕ) (row row' x : List C) → RowOf ps n order row → RowOf (ps ++ last_part ∷ []) n order row' → dot complex_numbers row' x ≈ dot complex_numbers row x ⊕ one_at k n ⊗ (y' ⊗ entry_at order x)
+    row-more : (ps : List Part) (n : ℕ) (ordering : List ℕ) (row row' x : List C) → RowOf ps n ordering row → RowOf (ps ++ last_part ∷ []) n ordering row' → dot complex_numbers row' x ≈ dot complex_numbers row x ⊕ one_at k n ⊗ (y' ⊗ entry_at ordering x)
     row-more ps n [] [] [] x p q = ring R (one_at k n ∷ y' ∷ []) (search reads depth 40 fits 4000) none_left
     row-more ps n [] (r ∷ row) row' x p q = absurd p
     row-more ps n [] [] (r ∷ row') x p q = absurd q
-    row-more ps n (m ∷ order) [] row' x p q = absurd p
-    row-more ps n (m ∷ order) (r ∷ row) [] x p q = absurd q
-    row-more ps n (m ∷ order) (r ∷ row) (r' ∷ row') [] p q = ring R (one_at k n ∷ y' ∷ []) (search reads depth 40 fits 4000) none_left
-    row-more ps n (m ∷ order) (r ∷ row) (r' ∷ row') (v ∷ x) p q =
-        step r r' v (nodal_entry ps n m) _ (one_at k n) (one_at k m) y' _ _ _ p.0 q.0 (entry-more ps n m) (row-more ps n order row row' x p.1 q.1)
+    row-more ps n (m ∷ ordering) [] row' x p q = absurd p
+    row-more ps n (m ∷ ordering) (r ∷ row) [] x p q = absurd q
+    row-more ps n (m ∷ ordering) (r ∷ row) (r' ∷ row') [] p q = ring R (one_at k n ∷ y' ∷ []) (search reads depth 40 fits 4000) none_left
+    row-more ps n (m ∷ ordering) (r ∷ row) (r' ∷ row') (v ∷ x) p q =
+        step r r' v (nodal_entry ps n m) _ (one_at k n) (one_at k m) y' _ _ _ p.0 q.0 (entry-more ps n m) (row-more ps n ordering row row' x p.1 q.1)
       where
         step : (r r' v a a' o o' y d d' f : C) → r ≈ a → r' ≈ a' → a' ≈ a ⊕ o ⊗ (y ⊗ o') → d' ≈ d ⊕ o ⊗ (y ⊗ f) → r' ⊗ v ⊕ d' ≈ (r ⊗ v ⊕ d) ⊕ o ⊗ (y ⊗ (o' ⊗ v ⊕ f))
         step r r' v a a' o o' y d d' f h1 h2 h3 h4 =
             linear R (r ∷ r' ∷ v ∷ a ∷ a' ∷ o ∷ o' ∷ y ∷ d ∷ d' ∷ f ∷ []) (join R (weigh R (minus v) h1) (join R (weigh R v h2) (join R (weigh R v h3) (weigh R unit h4)))) (search reads depth 40 fits 8000) none_left
 
-    none_at : (order : List ℕ) (x : List C) → ¬ IsAmong k order → entry_at order x ≈ nought
+    none_at : (ordering : List ℕ) (x : List C) → ¬ IsAmong k ordering → entry_at ordering x ≈ nought
     none_at [] x n = same _
-    none_at (m ∷ order) [] n = same _
-    none_at (m ∷ order) (v ∷ x) n =
-        linear R (one_at k m ∷ v ∷ entry_at order x ∷ []) (join R (weigh R v (one_at-apart k m (λ q. n (inl q)))) (weigh R unit (none_at order x (λ i. n (inr i))))) (search reads depth 40 fits 4000) none_left
+    none_at (m ∷ ordering) [] n = same _
+    none_at (m ∷ ordering) (v ∷ x) n =
+        linear R (one_at k m ∷ v ∷ entry_at ordering x ∷ []) (join R (weigh R v (one_at-apart k m (λ q. n (inl q)))) (weigh R unit (none_at ordering x (λ i. n (inr i))))) (search reads depth 40 fits 4000) none_left
 
-    head_apart : (m n : ℕ) (order : List ℕ) → AllByRecursion (λ j. m ≢ j) order → n < length order → get_or order n 0 ≡ k → ¬ (k ≡ m)
-    head_apart m n order d l q w = not_among m order d (subst (λ j. IsAmong j order) (q ∙ w) (at_among order n l))
+    head_apart : (m n : ℕ) (ordering : List ℕ) → AllByRecursion (λ j. m ≢ j) ordering → n < length ordering → get_or ordering n 0 ≡ k → ¬ (k ≡ m)
+    head_apart m n ordering d l q w = not_among m ordering d (subst (λ j. IsAmong j ordering) (q ∙ w) (at_among ordering n l))
 
-    entry_last : (n : ℕ) (order : List ℕ) (x : List C) → IsDistinct order → n < length order → length x ≡ length order → get_or order n 0 ≡ k → entry_at order x ≈ get_or x n nought
+    entry_last : (n : ℕ) (ordering : List ℕ) (x : List C) → IsDistinct ordering → n < length ordering → length x ≡ length ordering → get_or ordering n 0 ≡ k → entry_at ordering x ≈ get_or x n nought
     entry_last n [] x d l lx q = absurd (omega arith)
-    entry_last n (m ∷ order) [] d l lx q = absurd (omega arith)
-    entry_last zero (m ∷ order) (v ∷ x) d l lx q =
+    entry_last n (m ∷ ordering) [] d l lx q = absurd (omega arith)
+    entry_last zero (m ∷ ordering) (v ∷ x) d l lx q =
         let o : one_at k m ≈ unit = subst (λ j. one_at j m ≈ unit) q (one_at-same m) in
-        linear R (one_at k m ∷ v ∷ entry_at order x ∷ []) (join R (weigh R v o) (weigh R unit (none_at order x (λ i. not_among m order d.0 (subst (λ j. IsAmong j order) (sym q) i))))) (search reads depth 40 fits 4000) none_left
-    entry_last (suc n) (m ∷ order) (v ∷ x) d l lx q =
+        linear R (one_at k m ∷ v ∷ entry_at ordering x ∷ []) (join R (weigh R v o) (weigh R unit (none_at ordering x (λ i. not_among m ordering d.0 (subst (λ j. IsAmong j ordering) (sym q) i))))) (search reads depth 40 fits 4000) none_left
+    entry_last (suc n) (m ∷ ordering) (v ∷ x) d l lx q =
         let w = get_or x n nought in
-        linear R (one_at k m ∷ v ∷ w ∷ entry_at order x ∷ []) (join R (weigh R v (one_at-apart k m (head_apart m n order d.0 (omega arith) q))) (weigh R unit (entry_last n order x d.1 (omega arith) (omega arith) q))) (search reads depth 40 fits 4000) none_left
+        linear R (one_at k m ∷ v ∷ w ∷ entry_at ordering x ∷ []) (join R (weigh R v (one_at-apart k m (head_apart m n ordering d.0 (omega arith) q))) (weigh R unit (entry_last n ordering x d.1 (omega arith) (omega arith) q))) (search reads depth 40 fits 4000) none_left
 
     -- all rows but the last are as before
     abbrev RowsOf : List Part → List ℕ → List ℕ → List (List C) → Type 0
-    RowsOf ps order nodes rows = AllZip (λ n row. RowOf ps n order row) nodes rows
+    RowsOf ps ordering nodes rows = AllZip (λ n row. RowOf ps n ordering row) nodes rows
 
-    plain_row : (ps : List Part) (n : ℕ) (order : List ℕ) (row row' x : List C) → RowOf ps n order row → RowOf (ps ++ last_part ∷ []) n order row' → ¬ (k ≡ n) → dot complex_numbers row' x ≈ dot complex_numbers row x
-    plain_row ps n order row row' x p q a =
-        step _ _ _ _ (one_at-apart k n a) (row-more ps n order row row' x p q)
+    plain_row : (ps : List Part) (n : ℕ) (ordering : List ℕ) (row row' x : List C) → RowOf ps n ordering row → RowOf (ps ++ last_part ∷ []) n ordering row' → ¬ (k ≡ n) → dot complex_numbers row' x ≈ dot complex_numbers row x
+    plain_row ps n ordering row row' x p q a =
+        step _ _ _ _ (one_at-apart k n a) (row-more ps n ordering row row' x p q)
       where
         step : (d d' o z : C) → o ≈ nought → d' ≈ d ⊕ o ⊗ z → d' ≈ d
         step d d' o z h g = linear R (d ∷ d' ∷ o ∷ z ∷ []) (join R (weigh R unit g) (weigh R z h)) (search reads depth 40 fits 4000) none_left
 
-    annuls_both : (ps : List Part) (order nodes : List ℕ) (rows rows' : List (List C)) (n : ℕ) (x : List C) → RowsOf ps order nodes rows → RowsOf (ps ++ last_part ∷ []) order nodes rows' → IsDistinct nodes → n < length nodes → get_or nodes n 0 ≡ k
+    annuls_both : (ps : List Part) (ordering nodes : List ℕ) (rows rows' : List (List C)) (n : ℕ) (x : List C) → RowsOf ps ordering nodes rows → RowsOf (ps ++ last_part ∷ []) ordering nodes rows' → IsDistinct nodes → n < length nodes → get_or nodes n 0 ≡ k
         → (Annuls complex_numbers (take n rows) x → Annuls complex_numbers (take n rows') x) × (Annuls complex_numbers (take n rows') x → Annuls complex_numbers (take n rows) x)
-    annuls_both ps order nodes rows rows' zero x p q d l w = (λ a. tt, λ a. tt)
-    annuls_both ps order [] rows rows' (suc n) x p q d l w = absurd (omega arith)
-    annuls_both ps order (m ∷ nodes) [] rows' (suc n) x p q d l w = absurd p
-    annuls_both ps order (m ∷ nodes) (r ∷ rows) [] (suc n) x p q d l w = absurd q
-    annuls_both ps order (m ∷ nodes) (r ∷ rows) (r' ∷ rows') (suc n) x p q d l w =
-        let t = annuls_both ps order nodes rows rows' n x p.1 q.1 d.1 (omega arith) w in
-        let e = plain_row ps m order r r' x p.0 q.0 (head_apart m n nodes d.0 (omega arith) w) in
+    annuls_both ps ordering nodes rows rows' zero x p q d l w = (λ a. tt, λ a. tt)
+    annuls_both ps ordering [] rows rows' (suc n) x p q d l w = absurd (omega arith)
+    annuls_both ps ordering (m ∷ nodes) [] rows' (suc n) x p q d l w = absurd p
+    annuls_both ps ordering (m ∷ nodes) (r ∷ rows) [] (suc n) x p q d l w = absurd q
+    annuls_both ps ordering (m ∷ nodes) (r ∷ rows) (r' ∷ rows') (suc n) x p q d l w =
+        let t = annuls_both ps ordering nodes rows rows' n x p.1 q.1 d.1 (omega arith) w in
+        let e = plain_row ps m ordering r r' x p.0 q.0 (head_apart m n nodes d.0 (omega arith) w) in
         (λ a. (next e a.0, t.0 a.1), λ a. (next (back e) a.0, t.1 a.1))
 
-    row_at : (ps : List Part) (order nodes : List ℕ) (rows : List (List C)) (n : ℕ) → RowsOf ps order nodes rows → n < length nodes → RowOf ps (get_or nodes n 0) order (get_or rows n [])
-    row_at ps order [] rows n p l = absurd (omega arith)
-    row_at ps order (m ∷ nodes) [] n p l = absurd p
-    row_at ps order (m ∷ nodes) (r ∷ rows) zero p l = p.0
-    row_at ps order (m ∷ nodes) (r ∷ rows) (suc n) p l = row_at ps order nodes rows n p.1 (omega arith)
+    row_at : (ps : List Part) (ordering nodes : List ℕ) (rows : List (List C)) (n : ℕ) → RowsOf ps ordering nodes rows → n < length nodes → RowOf ps (get_or nodes n 0) ordering (get_or rows n [])
+    row_at ps ordering [] rows n p l = absurd (omega arith)
+    row_at ps ordering (m ∷ nodes) [] n p l = absurd p
+    row_at ps ordering (m ∷ nodes) (r ∷ rows) zero p l = p.0
+    row_at ps ordering (m ∷ nodes) (r ∷ rows) (suc n) p l = row_at ps ordering nodes rows n p.1 (omega arith)
 
     -- the matrix of the entries
     abbrev row_for : List Part → ℕ → List ℕ → List C
-    row_for ps n order = map (λ n'. nodal_entry ps n n') order
+    row_for ps n ordering = map (λ n'. nodal_entry ps n n') ordering
 
-    row_for-is : (ps : List Part) (n : ℕ) (order : List ℕ) → RowOf ps n order (row_for ps n order)
+    row_for-is : (ps : List Part) (n : ℕ) (ordering : List ℕ) → RowOf ps n ordering (row_for ps n ordering)
     row_for-is ps n [] = tt
-    row_for-is ps n (m ∷ order) = (same _, row_for-is ps n order)
+    row_for-is ps n (m ∷ ordering) = (same _, row_for-is ps n ordering)
 
-    rows_for-is : (ps : List Part) (order nodes : List ℕ) → RowsOf ps order nodes (map (λ n. row_for ps n order) nodes)
-    rows_for-is ps order [] = tt
-    rows_for-is ps order (n ∷ nodes) = (row_for-is ps n order, rows_for-is ps order nodes)
+    rows_for-is : (ps : List Part) (ordering nodes : List ℕ) → RowsOf ps ordering nodes (map (λ n. row_for ps n ordering) nodes)
+    rows_for-is ps ordering [] = tt
+    rows_for-is ps ordering (n ∷ nodes) = (row_for-is ps n ordering, rows_for-is ps ordering nodes)
 
 pub extra_shunt : ExtraShunt
 extra_shunt network h k y e r = record {
   parts = parts;
-  order = r.order;
+  ordering = r.ordering;
   rows = rows;
   n = r.n;
   system = record {
@@ -220,9 +220,9 @@ extra_shunt network h k y e r = record {
         list = c.list;
         count = c.count;
         ends = c.ends;
-        annuls = (annuls_both network k e h r.parts r.order r.order r.rows rows r.n c.list r.system.entries entries r.system.listed.distinct below r.last.last).0 c.annuls;
+        annuls = (annuls_both network k e h r.parts r.ordering r.ordering r.rows rows r.n c.list r.system.entries entries r.system.listed.distinct below r.last.last).0 c.annuls;
         last = last_row v c.list c.count c.ends c.last;
-        only = λ x l q a. c.only x l q ((annuls_both network k e h r.parts r.order r.order r.rows rows r.n x r.system.entries entries r.system.listed.distinct below r.last.last).1 a);
+        only = λ x l q a. c.only x l q ((annuls_both network k e h r.parts r.ordering r.ordering r.rows rows r.n x r.system.entries entries r.system.listed.distinct below r.last.last).1 a);
       };
 }
   where
@@ -233,28 +233,28 @@ extra_shunt network h k y e r = record {
     parts = r.parts ++ Alone (shunt_at k e) z ∷ []
 
     rows : List (List C)
-    rows = map (λ n. row_for network k e h parts n r.order) r.order
+    rows = map (λ n. row_for network k e h parts n r.ordering) r.ordering
 
-    entries : IsNodal parts r.order rows
-    entries = rows_for-is network k e h parts r.order r.order
+    entries : IsNodal parts r.ordering rows
+    entries = rows_for-is network k e h parts r.ordering r.ordering
 
-    below : r.n < length r.order
+    below : r.n < length r.ordering
     below = subst (λ m. r.n < m) (sym r.last.count) (omega arith)
 
     live : Live network k
-    live = (r.system.listed.live k).1 (subst (λ j. Contains r.order j) r.last.last (at_contains r.order r.n below))
+    live = (r.system.listed.live k).1 (subst (λ j. Contains r.ordering j) r.last.last (at_contains r.ordering r.n below))
       where
-        at_contains : (order : List ℕ) (n : ℕ) → n < length order → Contains order (get_or order n 0)
+        at_contains : (ordering : List ℕ) (n : ℕ) → n < length ordering → Contains ordering (get_or ordering n 0)
         at_contains [] n l = absurd (omega arith)
-        at_contains (m ∷ order) zero l = (0, omega arith, refl)
-        at_contains (m ∷ order) (suc n) l = let c = at_contains order n (omega arith) in (suc c.0, omega (arith, c.1), c.2)
+        at_contains (m ∷ ordering) zero l = (0, omega arith, refl)
+        at_contains (m ∷ ordering) (suc n) l = let c = at_contains ordering n (omega arith) in (suc c.0, omega (arith, c.1), c.2)
 
     last_row : (v : C) (x : List C) → length x ≡ suc r.n → get_or x r.n nought ≈ v → dot complex_numbers (get_or r.rows r.n []) x ≈ y ⊗ v → dot complex_numbers (get_or rows r.n []) x ≈ (y ⊕ z) ⊗ v
     last_row v x l q p =
-        let j = get_or r.order r.n 0 in
-        let more = row-more network k e h r.parts j r.order (get_or r.rows r.n []) (get_or rows r.n []) x (row_at network k e h r.parts r.order r.order r.rows r.n r.system.entries below) (row_at network k e h parts r.order r.order rows r.n entries below) in
+        let j = get_or r.ordering r.n 0 in
+        let more = row-more network k e h r.parts j r.ordering (get_or r.rows r.n []) (get_or rows r.n []) x (row_at network k e h r.parts r.ordering r.ordering r.rows r.n r.system.entries below) (row_at network k e h parts r.ordering r.ordering rows r.n entries below) in
         let o : one_at k j ≈ unit = subst (λ i. one_at i j ≈ unit) r.last.last (one_at-same j) in
-        let f = entry_last network k e h r.n r.order x r.system.listed.distinct below (l ∙ sym r.last.count) r.last.last in
+        let f = entry_last network k e h r.n r.ordering x r.system.listed.distinct below (l ∙ sym r.last.count) r.last.last in
         step _ _ (one_at k j) _ v y z (next f q) o more p
       where
         step : (d d' o f v y z : C) → f ≈ v → o ≈ unit → d' ≈ d ⊕ o ⊗ (z ⊗ f) → d ≈ y ⊗ v → d' ≈ (y ⊕ z) ⊗ v

@@ -102,7 +102,7 @@ one_node_system network h ys o z = record {
 pub one_node_reduced : (network : Network) (h : Order) (ys : List Complex) → IsOneNode network → AllZip (λ b y. IsAdmittance h b.law y) network.branches ys → IsReducedTo network h 0 (sum_of ys)
 one_node_reduced network h ys o z = record {
   parts = ground_parts network.branches ys;
-  order = 0 ∷ [];
+  ordering = 0 ∷ [];
   rows = (sum_of ys ∷ []) ∷ [];
   n = 0;
   system = one_node_system network h ys o z;

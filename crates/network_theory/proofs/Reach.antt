@@ -180,10 +180,10 @@ count_grows (suc n) s t w = omega (arith, one_least (s n) (t n) (last_in n s t w
 -- no more of the greater set: it is the same
 count_same : (n : ℕ) (s t : Set) → IsWithin n s t → count t n ≤ count s n → IsWithin n t s
 count_same zero s t w h i l e = absurd (omega arith)
-count_same (suc n) s t w h i l e = go (s n) (t n) refl refl (order i n) (λ few less. count_same n s t (shorter n s t w) few i less e)
+count_same (suc n) s t w h i l e = go (s n) (t n) refl refl (ordering i n) (λ few less. count_same n s t (shorter n s t w) few i less e)
   where
-    order : (a b : ℕ) → (a < b) ⊎ (a ≡ b) ⊎ (b < a)
-    order a b = grind arith
+    ordering : (a b : ℕ) → (a < b) ⊎ (a ≡ b) ⊎ (b < a)
+    ordering a b = grind arith
 
     grows : count s n ≤ count t n
     grows = count_grows n s t (shorter n s t w)

@@ -36,10 +36,10 @@ pub peak : Peak
 peak = K.peak
 
 pub injective_nodal : InjectiveNodal
-injective_nodal network h parts order rows S = (D.injective_matrix network h parts order rows S, D.only_zero_state network h parts order rows S)
+injective_nodal network h parts ordering rows S = (D.injective_matrix network h parts ordering rows S, D.only_zero_state network h parts ordering rows S)
 
 pub state_solves : StateSolves
-state_solves network h J parts order rows S s x = B.state_solves network h parts order rows S J s x
+state_solves network h J parts ordering rows S s x = B.state_solves network h parts ordering rows S J s x
 
 zero_difference : (u v : Complex) → u ⊕ minus v ≈ nought → u ≈ v
 zero_difference u v h = linear R (u ∷ v ∷ []) (weigh R unit h) (search reads depth 40 fits 4000) none_left
@@ -51,7 +51,7 @@ only_state network h J o s t p q =
     record { voltages = λ n l. zero_difference _ _ (z.voltages n l); currents = λ i b e c. zero_difference _ _ (z.currents i b e c) }
 
 pub solved_state : SolvedState
-solved_state network h J parts order rows S one =
-    let o = D.only_zero_state network h parts order rows S (D.injective_from_one (length order) rows (map J order) one) in
-    let x = D.solved_state network h parts order rows S J one.solution one.count one.solves in
+solved_state network h J parts ordering rows S one =
+    let o = D.only_zero_state network h parts ordering rows S (D.injective_from_one (length ordering) rows (map J ordering) one) in
+    let x = D.solved_state network h parts ordering rows S J one.solution one.count one.solves in
     record { state = _; exact = x; only = λ s y. only_state network h J o s _ y x; only_zero = o }

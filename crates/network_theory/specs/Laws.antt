@@ -62,15 +62,15 @@ Peak = (network : Network) (h : Order) (k : ℕ) (T : Ratio) (y : Complex) → I
 
 -- the nodal matrix has only the zero solution exactly where the network has only the zero state
 abbrev pub InjectiveNodal : Type 0
-InjectiveNodal = (network : Network) (h : Order) (parts : List Part) (order : List ℕ) (rows : List (List Complex)) → IsNodalSystem network h parts order rows → HasOnlyZeroState network h ↔ IsInjective complex_numbers (length order) rows
+InjectiveNodal = (network : Network) (h : Order) (parts : List Part) (ordering : List ℕ) (rows : List (List Complex)) → IsNodalSystem network h parts ordering rows → HasOnlyZeroState network h ↔ IsInjective complex_numbers (length ordering) rows
 
 -- where the nodal equations have one solution for J, the network has one exact state for J
 abbrev pub SolvedState : Type 0
-SolvedState = (network : Network) (h : Order) (J : ℕ → Complex) (parts : List Part) (order : List ℕ) (rows : List (List Complex)) → IsNodalSystem network h parts order rows → HasOneSolution complex_numbers (length order) rows (map J order) → HasOneState network h J
+SolvedState = (network : Network) (h : Order) (J : ℕ → Complex) (parts : List Part) (ordering : List ℕ) (rows : List (List Complex)) → IsNodalSystem network h parts ordering rows → HasOneSolution complex_numbers (length ordering) rows (map J ordering) → HasOneState network h J
 
--- the voltages of an exact state, in the nodes' order, solve the nodal equations
+-- the voltages of an exact state, in the nodes' ordering, solve the nodal equations
 abbrev pub StateSolves : Type 0
-StateSolves = (network : Network) (h : Order) (J : ℕ → Complex) (parts : List Part) (order : List ℕ) (rows : List (List Complex)) → IsNodalSystem network h parts order rows → (s : State) → IsExactState network h J s → Solves complex_numbers rows (map s.voltage order) (map J order)
+StateSolves = (network : Network) (h : Order) (J : ℕ → Complex) (parts : List Part) (ordering : List ℕ) (rows : List (List Complex)) → IsNodalSystem network h parts ordering rows → (s : State) → IsExactState network h J s → Solves complex_numbers rows (map s.voltage ordering) (map J ordering)
 
 -- where each part of a network that has a live node has its admittances, so has each that carries a current
 abbrev pub SplitAdmittances : Type 0

@@ -37,24 +37,24 @@ nodal_entry (part ∷ parts) n n' = part_entry part n n' ⊕ nodal_entry parts n
 -- no node stands twice
 abbrev pub IsDistinct : List ℕ → Type 0
 IsDistinct [] = Unit {0}
-IsDistinct (n ∷ order) = AllByRecursion (λ m. n ≢ m) order × IsDistinct order
+IsDistinct (n ∷ ordering) = AllByRecursion (λ m. n ≢ m) ordering × IsDistinct ordering
 
--- each live node once, in any order
-pub record ListsLive (network : Network) (order : List ℕ) : Type 0 where
-  pub distinct : IsDistinct order
-  pub live : (n : ℕ) → Live network n ↔ Contains order n
+-- each live node once, in some ordering
+pub record ListsLive (network : Network) (ordering : List ℕ) : Type 0 where
+  pub distinct : IsDistinct ordering
+  pub live : (n : ℕ) → Live network n ↔ Contains ordering n
 
--- the entries of the matrix are those of the nodes in their order
+-- the entries of the matrix are those of the nodes in their ordering
 abbrev pub IsNodal : List Part → List ℕ → List (List Complex) → Type 0
-IsNodal parts order rows = AllZip (λ n row. AllZip (λ n' entry. entry ≈ nodal_entry parts n n') order row) order rows
+IsNodal parts ordering rows = AllZip (λ n row. AllZip (λ n' entry. entry ≈ nodal_entry parts n n') ordering row) ordering rows
 
--- the nodal equations of a network at an order: its admittances, its live nodes in an order, and the matrix
-pub record IsNodalSystem (network : Network) (h : Order) (parts : List Part) (order : List ℕ) (rows : List (List Complex)) : Type 0 where
+-- the nodal equations of a network at an order: its admittances, its live nodes in an ordering, and the matrix
+pub record IsNodalSystem (network : Network) (h : Order) (parts : List Part) (ordering : List ℕ) (rows : List (List Complex)) : Type 0 where
   pub admitted : HasAdmittances network h parts
-  pub listed : ListsLive network order
-  pub entries : IsNodal parts order rows
+  pub listed : ListsLive network ordering
+  pub entries : IsNodal parts ordering rows
 
 -- of n + 1 nodes, k stands last
-pub record IsLast (order : List ℕ) (n k : ℕ) : Type 0 where
-  pub count : length order ≡ suc n
-  pub last : get_or order n 0 ≡ k
+pub record IsLast (ordering : List ℕ) (n k : ℕ) : Type 0 where
+  pub count : length ordering ≡ suc n
+  pub last : get_or ordering n 0 ≡ k

@@ -10,9 +10,9 @@ use Rattle.network_theory.specs.Nodal.{IsNodalSystem, IsLast}
 -- the nodal matrix with node k last has the complement y
 pub record IsReducedTo (network : Network) (h : Order) (k : ℕ) (y : Complex) : Type 0 where
   pub parts : List Part
-  pub order : List ℕ
+  pub ordering : List ℕ
   pub rows : List (List Complex)
   pub n : ℕ
-  pub system : IsNodalSystem network h parts order rows
-  pub last : IsLast order n k
+  pub system : IsNodalSystem network h parts ordering rows
+  pub last : IsLast ordering n k
   pub value : (v : Complex) → IsComplement complex_numbers n rows y v

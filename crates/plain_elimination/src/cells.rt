@@ -2,13 +2,14 @@
 ghost use Rattle.std.specs.Prelude.{◌≡◌, ◌+◌, ◌*◌, ◌<◌, ◌≤◌, IfOk, length, map, take, drop, replicate, slice_set};
 ghost use Rattle.complex_interval.specs.Rect.{box_of};
 ghost use Rattle.plain_elimination.specs.Matrix.{nought_box};
+ghost use Rattle.plain_elimination.specs.declared.limits.TheConstants.{MAX_SIZE};
 
 use complex_interval::{Enclosure, Rect};
 use std::alloc::{AllocError, Global};
 
 /// The cell of an entry, where rows lie one after another.
 pub fn place_of(size: u32, row: u32, column: u32) -> usize
-    requires few { size ≤ 4096 }
+    requires few { size ≤ MAX_SIZE }
     requires row_in { row < size }
     requires column_in { column < size }
     ensures place { result ≡ row * size + column }
@@ -67,7 +68,7 @@ pub fn cells_up_to<E: Enclosure>(cells: &[Rect<E>], end: usize) -> &[Rect<E>]
 /// The cells of this row.
 pub fn cells_of_row<E: Enclosure>(cells: &[Rect<E>], size: usize, row: usize) -> &[Rect<E>]
     requires row_in { row < size }
-    requires few { size ≤ 4096 }
+    requires few { size ≤ MAX_SIZE }
     requires square { length cells.now ≡ size * size }
     ensures { result.now ≡ take size (drop (row * size) cells.now) }
 {

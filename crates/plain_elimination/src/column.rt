@@ -2,6 +2,7 @@
 ghost use Rattle.std.specs.Prelude.{◌≡◌, ◌<◌, ◌≤◌, Some, IfOk, length, replicate, slice_get, slice_set};
 ghost use Rattle.complex_interval.specs.Rect.{box_of};
 ghost use Rattle.plain_elimination.specs.Matrix.{nought_box};
+ghost use Rattle.plain_elimination.specs.declared.limits.TheConstants.{MAX_SIZE};
 
 use crate::cells::nought_cells;
 use complex_interval::{Enclosure, Rect};
@@ -27,7 +28,7 @@ impl<E: Enclosure> Model for Column<E> {
 impl<E: Enclosure> Column<E> {
     /// A column of this size with zero in each row. The only call that takes memory.
     pub fn new(alloc: Global, size: u32) -> Result<Column<E>, AllocError>
-        requires { size ≤ 4096 }
+        requires { size ≤ MAX_SIZE }
         ensures { IfOk result (λ c. c ≡ replicate size nought_box) }
     {
         let cells = nought_cells(alloc, size as usize)?;

@@ -2,6 +2,7 @@
 ghost use Rattle.std.specs.Prelude.{◌≡◌, ◌+◌, ◌*◌, ◌<◌, ◌≤◌, Some, IfOk, [], get_or, length, map, replicate};
 ghost use Rattle.complex_interval.specs.Rect.{box_of};
 ghost use Rattle.plain_elimination.specs.Matrix.{Square, entry, set_entry, nought_box};
+ghost use Rattle.plain_elimination.specs.declared.limits.TheConstants.{MAX_SIZE};
 
 use crate::cells::{cells_of_row, clear_cells, nought_cells, place_of};
 use complex_interval::{Enclosure, Rect};
@@ -20,18 +21,19 @@ impl<E: Enclosure> Model for Matrix<E> {
     ghost use Rattle.complex_interval.specs.Rect.{box_of};
     ghost use Rattle.plain_elimination.specs.Layout.{rows_of};
     ghost use Rattle.plain_elimination.specs.Matrix.{Square};
+    ghost use Rattle.plain_elimination.specs.declared.limits.TheConstants.{MAX_SIZE};
 
     ghost Value = { Square };
 
     ghost view = { λ m. record { size = m.size; rows = rows_of m.size m.size (map (box_of E.ends) m.cells.items) } };
 
-    ghost invariant = { λ m. (length m.cells.items ≡ m.size * m.size) × (m.size ≤ 4096) };
+    ghost invariant = { λ m. (length m.cells.items ≡ m.size * m.size) × (m.size ≤ MAX_SIZE) };
 }
 
 impl<E: Enclosure> Matrix<E> {
     /// A matrix of this size with zero in each entry. The only call that takes memory.
     pub fn new(alloc: Global, size: u32) -> Result<Matrix<E>, AllocError>
-        requires { size ≤ 4096 }
+        requires { size ≤ MAX_SIZE }
         ensures { IfOk result (λ m. m ≡ record { size = size; rows = replicate size (replicate size nought_box) }) }
     {
         let width = size as usize;

@@ -6,6 +6,7 @@ ghost use Rattle.plain_elimination.specs.Elimination.{bind, or_fail, split_pivot
 ghost use Rattle.plain_elimination.specs.Layout.{rows_of, from_column, rows_left};
 ghost use Rattle.plain_elimination.specs.Matrix.{HoldsComplements};
 ghost use Rattle.plain_elimination.specs.Rectangles.{boxes, reduce_boxes};
+ghost use Rattle.plain_elimination.specs.declared.limits.TheConstants.{MAX_SIZE};
 
 use crate::cells::cells_from;
 use crate::failure::Failure;
@@ -22,8 +23,8 @@ fn reduce_by<E: Enclosure>(
     column: usize,
 ) -> Result<(), Failure>
     requires pivot { 0 < length first.now }
-    requires row_size { column + length first.now ≤ 4096 }
-    requires few_rows { rows ≤ 4096 }
+    requires row_size { column + length first.now ≤ MAX_SIZE }
+    requires few_rows { rows ≤ MAX_SIZE }
     requires rows { length later.old ≡ rows * (column + length first.now) }
     ensures { let size = column + length first.now in
         bind result (λ _. Ok (from_column (column + 1) (rows_of rows size (map (box_of E.ends) later.new))))
@@ -48,7 +49,7 @@ fn reduce_column<E: Enclosure>(
     column: usize,
 ) -> Result<(), Failure>
     requires column_in { column < size }
-    requires few { size ≤ 4096 }
+    requires few { size ≤ MAX_SIZE }
     requires square { length cells.old ≡ size * size }
     ensures { bind result (λ _. Ok (rows_left size (column + 1) (map (box_of E.ends) cells.new)))
         ≡ reduce_step (boxes E.SCALE) (column + 1) (rows_left size column (map (box_of E.ends) cells.old)) }
@@ -61,7 +62,7 @@ fn reduce_column<E: Enclosure>(
 /// The reduction of a square list of rows, in place. What it leaves in the cells is unspecified.
 pub fn reduce_cells<E: Enclosure>(cells: &mut [Rect<E>], size: usize) -> Result<Rect<E>, Failure>
     requires some { 0 < size }
-    requires few { size ≤ 4096 }
+    requires few { size ≤ MAX_SIZE }
     requires square { length cells.old ≡ size * size }
     ensures { bind result (λ value. Ok (box_of E.ends value))
         ≡ reduce (boxes E.SCALE) (rows_of size size (map (box_of E.ends) cells.old)) }

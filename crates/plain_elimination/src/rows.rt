@@ -5,6 +5,7 @@ ghost use Rattle.complex_interval.specs.Rect.{box_of};
 ghost use Rattle.plain_elimination.specs.Elimination.{later_row, later_rows, later_line, later_lines};
 ghost use Rattle.plain_elimination.specs.Layout.{rows_of, from_column, lines_from};
 ghost use Rattle.plain_elimination.specs.Rectangles.{boxes};
+ghost use Rattle.plain_elimination.specs.declared.limits.TheConstants.{MAX_SIZE};
 
 use crate::row::{eliminate_line, eliminate_row};
 use complex_interval::{Enclosure, Rect};
@@ -37,8 +38,8 @@ pub fn eliminate_rows<E: Enclosure>(
     rows: usize,
     column: usize,
 ) -> Option<()>
-    requires row_size { column + 1 + length first.now ≤ 4096 }
-    requires few_rows { rows ≤ 4096 }
+    requires row_size { column + 1 + length first.now ≤ MAX_SIZE }
+    requires few_rows { rows ≤ MAX_SIZE }
     requires rows { length later.old ≡ rows * (column + 1 + length first.now) }
     ensures { let size = column + 1 + length first.now in
         option_map (λ _. from_column (column + 1) (rows_of rows size (map (box_of E.ends) later.new))) result
@@ -89,8 +90,8 @@ pub fn eliminate_lines<E: Enclosure>(
     right: &mut [Rect<E>],
     column: usize,
 ) -> Option<()>
-    requires row_size { column + 1 + length first.now ≤ 4096 }
-    requires few_rows { length right.old ≤ 4096 }
+    requires row_size { column + 1 + length first.now ≤ MAX_SIZE }
+    requires few_rows { length right.old ≤ MAX_SIZE }
     requires rows { length later.old ≡ length right.old * (column + 1 + length first.now) }
     ensures { let size = column + 1 + length first.now in
         option_map (λ _. lines_from (boxes E.SCALE) (column + 1) size (map (box_of E.ends) later.new) (map (box_of E.ends) right.new)) result

@@ -7,6 +7,7 @@ ghost use Rattle.plain_elimination.specs.Elimination.{and_then, bind, or_fail, s
 ghost use Rattle.plain_elimination.specs.Layout.{rows_of, lines_from, lines_left, pivot_row, with_unknown, way_back};
 ghost use Rattle.plain_elimination.specs.Matrix.{HoldsSolutions};
 ghost use Rattle.plain_elimination.specs.Rectangles.{boxes, solve_boxes};
+ghost use Rattle.plain_elimination.specs.declared.limits.TheConstants.{MAX_SIZE};
 
 use crate::cells::{cells_from, cells_up_to, set_cell};
 use crate::column::Column;
@@ -25,8 +26,8 @@ fn solve_by<E: Enclosure>(
     column: usize,
 ) -> Result<(), Failure>
     requires pivot { 0 < length first.now }
-    requires row_size { column + length first.now ≤ 4096 }
-    requires few_rows { length right.old ≤ 4096 }
+    requires row_size { column + length first.now ≤ MAX_SIZE }
+    requires few_rows { length right.old ≤ MAX_SIZE }
     requires rows { length later.old ≡ length right.old * (column + length first.now) }
     ensures { let size = column + length first.now in
         bind result (λ _. Ok (lines_from (boxes E.SCALE) (column + 1) size (map (box_of E.ends) later.new) (map (box_of E.ends) right.new)))
@@ -60,7 +61,7 @@ fn solve_column<E: Enclosure>(
     column: usize,
 ) -> Result<(), Failure>
     requires column_in { column < size }
-    requires few { size ≤ 4096 }
+    requires few { size ≤ MAX_SIZE }
     requires square { length cells.old ≡ size * size }
     requires sides { length right.old ≡ size }
     ensures step { bind result (λ _. Ok (lines_left (boxes E.SCALE) size (column + 1) (map (box_of E.ends) cells.new) (map (box_of E.ends) right.new)))
@@ -81,7 +82,7 @@ fn eliminate_system<E: Enclosure>(
     right: &mut [Rect<E>],
     size: usize,
 ) -> Result<(), Failure>
-    requires few { size ≤ 4096 }
+    requires few { size ≤ MAX_SIZE }
     requires square { length cells.old ≡ size * size }
     requires sides { length right.old ≡ size }
     ensures { bind result (λ _. way_back (boxes E.SCALE) size size (map (box_of E.ends) cells.new) (map (box_of E.ends) right.new) (Ok []))
@@ -125,7 +126,7 @@ fn solve_row<E: Enclosure>(
     row: usize,
 ) -> Result<(), Failure>
     requires row_in { row < size }
-    requires few { size ≤ 4096 }
+    requires few { size ≤ MAX_SIZE }
     requires square { length cells.now ≡ size * size }
     requires sides { length right.old ≡ size }
     ensures unknown { bind result (λ _. Ok (drop row (map (box_of E.ends) right.new)))
@@ -151,7 +152,7 @@ fn substitute_back<E: Enclosure>(
     right: &mut [Rect<E>],
     size: usize,
 ) -> Result<(), Failure>
-    requires few { size ≤ 4096 }
+    requires few { size ≤ MAX_SIZE }
     requires square { length cells.now ≡ size * size }
     requires sides { length right.old ≡ size }
     ensures { bind result (λ _. Ok (map (box_of E.ends) right.new))
@@ -170,7 +171,7 @@ pub fn solve_cells<E: Enclosure>(
     right: &mut [Rect<E>],
     size: usize,
 ) -> Result<(), Failure>
-    requires few { size ≤ 4096 }
+    requires few { size ≤ MAX_SIZE }
     requires square { length cells.old ≡ size * size }
     requires sides { length right.old ≡ size }
     ensures { bind result (λ _. Ok (map (box_of E.ends) right.new))

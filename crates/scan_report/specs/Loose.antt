@@ -45,10 +45,10 @@ second_of [] = 0
 second_of (byte ∷ text) = first_of text
 
 unfoldable pub short_of : List ℕ → ℕ
-short_of text = min (number_of text) 4294967295
+short_of text = min (number_of text) (2 ^ 32 - 1)
 
 unfoldable pub long_of : List ℕ → ℕ
-long_of text = min (number_of text) 18446744073709551615
+long_of text = min (number_of text) (2 ^ 64 - 1)
 
 unfoldable pub order_of : List ℕ → Option ℕ
 order_of text = if first_of text == 45 then None else Some (short_of text)

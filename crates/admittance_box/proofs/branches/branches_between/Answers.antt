@@ -15,5 +15,5 @@ loop-i-preserved g c =
     let high = c.args.high.now in
     let count = zip_count BranchUpTo exact_branch low high c.requires.ordered in
     let after : c.push.new.self.items ≡ c.loop-i.branches.items ++ c.in_ok-branch.branch ∷ [] = c.in_ok-push.ensures.items in
-    branches_more g.E.Enclosure.SCALE c.args.order.now low high c.loop-i.i c.index-low-i.result c.index-high-i.result c.loop-i-test.true c.index-low-i.is (omega (arith, c.loop-i-test.true, count)) c.index-high-i.is
+    branches_more g.E.Enclosure.SCALE c.args.ordering.now low high c.loop-i.i c.index-low-i.result c.index-high-i.result c.loop-i-test.true c.index-low-i.is (omega (arith, c.loop-i-test.true, count)) c.index-high-i.is
     (addend_of g.E.Enclosure.ends) c.loop-i.branches.items c.push.new.self.items c.in_ok-branch.branch _ after c.in_ok-branch.ensures c.loop-i.invariant

@@ -4,4 +4,4 @@ use Rattle.admittance_box.specs.Addends.{has_place}
 use Rattle.admittance_box.proofs.taps.any_place.Given as goal
 
 abbrev pub invariant-loop-tap : goal.invariant-loop-tap
-invariant-loop-tap l = has_place l.order (map exact_tap (drop l.tap-index l.taps)) ≡ has_place l.order (map exact_tap l.taps)
+invariant-loop-tap l = has_place l.ordering (map exact_tap (drop l.tap-index l.taps)) ≡ has_place l.ordering (map exact_tap l.taps)

@@ -16,5 +16,5 @@ loop-i-preserved g c =
     let i = c.loop-i.i in
     let count = zip_count TapUpTo exact_tap low high c.requires.ordered in
     let after : c.push.new.self.items ≡ c.loop-i.taps.items ++ c.in-Some.tap ∷ [] = c.in_ok-push.ensures.items in
-    taps_more g.E.Enclosure.SCALE c.args.order.now low high i c.index-low-i.result c.index-high-i.result c.loop-i-test.true c.index-low-i.is (omega (arith, c.loop-i-test.true, count)) c.index-high-i.is
+    taps_more g.E.Enclosure.SCALE c.args.ordering.now low high i c.index-low-i.result c.index-high-i.result c.loop-i-test.true c.index-low-i.is (omega (arith, c.loop-i-test.true, count)) c.index-high-i.is
     (placed_ends ends) c.loop-i.taps.items c.push.new.self.items c.in-Some.tap _ after c.in-Some.ensures c.loop-i.invariant

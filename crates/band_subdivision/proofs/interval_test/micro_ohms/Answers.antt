@@ -4,13 +4,13 @@ use Rattle.band_subdivision.proofs.interval_test.micro_ohms.Goals as goal
 
 pub signed-requires : goal.signed-requires
 signed-requires c =
-    let kv : c.size_of-kv.result ≤ 2000000000 = rw c.size_of-kv.ensures.size (kv_fits c.args.levels.now c.requires.in_range) in
+    let kv : c.size_of-kv.result ≤ 2 ^ 31 = rw c.size_of-kv.ensures.size (kv_fits c.args.levels.now c.requires.in_range) in
     let fits = ohms_fit c.size_of-kv.result c.unit_of.result (c.size_of.result * c.root_ceil.result) kv c.unit_of.ensures.bound in
     omega arith
 
 pub returns : goal.returns
 returns c =
-    let kv : c.size_of-kv.result ≤ 2000000000 = rw c.size_of-kv.ensures.size (kv_fits c.args.levels.now c.requires.in_range) in
+    let kv : c.size_of-kv.result ≤ 2 ^ 31 = rw c.size_of-kv.ensures.size (kv_fits c.args.levels.now c.requires.in_range) in
     let fits = ohms_fit c.size_of-kv.result c.unit_of.result (c.size_of.result * c.root_ceil.result) kv c.unit_of.ensures.bound in
     passed c.signed.result _ c.signed.ensures (omega arith)
     ∙ ap pos (ohms_are c.args.scale c.args.levels.now c.args.high c.size_of-kv.result c.size_of.result c.unit_of.result c.root_ceil.result

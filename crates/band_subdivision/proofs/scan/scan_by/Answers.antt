@@ -6,7 +6,7 @@ use Rattle.band_subdivision.proofs.scan.scan_by.Goals as goal
 
 pub returns : goal.returns
 returns g c =
-    let t : Testing = record { spec = c.args.spec; low = c.args.assembly.low; high = c.args.assembly.high; driven = c.args.assembly.driven; order = c.args.assembly.order; extra = nothing } in
+    let t : Testing = record { spec = c.args.spec; low = c.args.assembly.low; high = c.args.assembly.high; driven = c.args.assembly.driven; ordering = c.args.assembly.ordering; extra = nothing } in
     rw (c.new-stack.ensures, c.new.ensures) (record {
       same_spec = refl;
       from_low = refl;

@@ -1,4 +1,4 @@
-use Rattle.admittance_box.proofs.NodeOrders.{lists_live}
+use Rattle.admittance_box.proofs.NodeOrderings.{lists_live}
 use Rattle.admittance_box.proofs.assembly.Assembly.size.Goals as goal
 
 pub returns-clause-live : goal.returns-clause-live

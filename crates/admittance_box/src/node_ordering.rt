@@ -1,7 +1,7 @@
-// The order of a matrix's nodes.
+// The ordering of a matrix's nodes.
 ghost use Rattle.std.specs.Prelude.{◌≡◌, ◌-◌, ◌<◌, ◌≤◌, ◌++◌, ◌==◌, ◌&&◌, not, false, IfOk, length, get_or};
 ghost use Rattle.net_branch.specs.Exact.{exact_network};
-ghost use Rattle.admittance_box.specs.Places.{live_from, node_order};
+ghost use Rattle.admittance_box.specs.Places.{live_from, node_ordering};
 
 use net_branch::Network;
 use std::alloc::{AllocError, Global};
@@ -16,7 +16,7 @@ fn is_taken(live: &[bool], driven: u32, node: u32) -> bool
 
 // Adds the live nodes of the numbers from `from` to before `to`, but the driven one.
 fn push_live(
-    order: &mut Vec<u32>,
+    ordering: &mut Vec<u32>,
     live: &[bool],
     driven: u32,
     from: u32,
@@ -24,11 +24,11 @@ fn push_live(
 ) -> Result<(), AllocError>
     requires ordered { from ≤ to }
     requires known { to ≤ length live.now }
-    ensures { IfOk result (λ _. order.new.items ≡ order.old.items ++ live_from (λ n. get_or live.now n false) driven from (to - from)) }
+    ensures { IfOk result (λ _. ordering.new.items ≡ ordering.old.items ++ live_from (λ n. get_or live.now n false) driven from (to - from)) }
 {
     for node in from..to {
         if is_taken(live, driven, node) {
-            order.push(node)?;
+            ordering.push(node)?;
         }
     }
     Ok(())
@@ -44,11 +44,11 @@ pub fn order_nodes(
 ) -> Result<Vec<u32>, AllocError>
     requires buses { network.now.buses ≤ network.now.nodes }
     requires known { length live.now ≡ network.now.nodes }
-    ensures { IfOk result (λ order. order.items ≡ node_order (exact_network network.now) (λ n. get_or live.now n false) driven) }
+    ensures { IfOk result (λ ordering. ordering.items ≡ node_ordering (exact_network network.now) (λ n. get_or live.now n false) driven) }
 {
-    let mut order = Vec::new(alloc);
-    push_live(&mut order, live, driven, network.buses, network.nodes)?;
-    push_live(&mut order, live, driven, 0, network.buses)?;
-    order.push(driven)?;
-    Ok(order)
+    let mut ordering = Vec::new(alloc);
+    push_live(&mut ordering, live, driven, network.buses, network.nodes)?;
+    push_live(&mut ordering, live, driven, 0, network.buses)?;
+    ordering.push(driven)?;
+    Ok(ordering)
 }

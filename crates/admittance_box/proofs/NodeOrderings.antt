@@ -1,4 +1,4 @@
--- The node order lists the live nodes, each once, with the driven node last.
+-- The node ordering lists the live nodes, each once, with the driven node last.
 use Rattle.std.proofs.Common.{◌≡◌, ◌≢◌, ℕ, zero, suc, ◌+◌, ◌-◌, ◌<◌, ◌≤◌, Bool, true, false, List, [], ◌∷◌, ◌++◌, length, get_or, refl, sym, subst, ◌∙◌, arith, inl, inr, ◌⊎◌, length-append}
 use Rattle.std.specs.Prelude.{◌&&◌, ◌==◌, not, if◌then◌else◌}
 use Rattle.std.specs.List.{AllByRecursion}
@@ -10,7 +10,7 @@ use Rattle.network_theory.proofs.Bridge.{among_contains, contains_among}
 use Rattle.network_theory.proofs.Carried.{IsAmong}
 use Rattle.network_theory.proofs.Numbers.{same_node}
 use Rattle.network_theory.proofs.Phases.{live_is_node}
-use Rattle.admittance_box.specs.Places.{live_from, IsNodeOrder}
+use Rattle.admittance_box.specs.Places.{live_from, IsNodeOrdering}
 use Rattle.admittance_box.proofs.LivePairs.{live_up, live_down}
 
 -- what is in one of two lists
@@ -99,16 +99,16 @@ last_of d [] = refl
 last_of d (x ∷ xs) = last_of d xs
 
 -- the number of nodes before the driven one, which is last
-pub is_last : (network : Network) (driven : ℕ) (order : List ℕ) → IsNodeOrder network driven order → (n : ℕ) × IsLast order n driven
-is_last network driven order o =
+pub is_last : (network : Network) (driven : ℕ) (ordering : List ℕ) → IsNodeOrdering network driven ordering → (n : ℕ) × IsLast ordering n driven
+is_last network driven ordering o =
     let inner = live_from o.live driven network.buses (network.nodes - network.buses) in
     let buses = live_from o.live driven 0 network.buses in
     let xs = inner ++ buses in
     (length xs, subst (λ l. IsLast l (length xs) driven) (sym o.same) (record { count = length-append xs (driven ∷ []) ∙ omega arith; last = last_of driven xs }))
 
 -- the order of one network is that of another of its shape
-pub order_along : (a b : Network) (driven : ℕ) (order : List ℕ) → IsPair a b → IsNodeOrder a driven order → IsNodeOrder b driven order
-order_along a b driven order p o = record {
+pub order_along : (a b : Network) (driven : ℕ) (ordering : List ℕ) → IsPair a b → IsNodeOrdering a driven ordering → IsNodeOrdering b driven ordering
+order_along a b driven ordering p o = record {
   live = o.live;
   right = λ n. (λ t. live_up a b p n ((o.right n).0 t), λ l. (o.right n).1 (live_down a b p n l));
   same = o.same ∙ by a.buses b.buses a.nodes b.nodes p.buses p.nodes;
@@ -118,8 +118,8 @@ order_along a b driven order p o = record {
     by m m' k k' e f = rw (e, f) refl
 
 -- of a whole network in which the driven node is live
-pub lists_live : (network : Network) (driven : ℕ) (order : List ℕ) → IsWhole network → Live network driven → IsNodeOrder network driven order → ListsLive network order
-lists_live network driven order w l o = subst (ListsLive network) (sym o.same) (record { distinct = distinct; live = λ n. (λ v. among_contains n all (into n v), λ c. out n (contains_among n all c)) })
+pub lists_live : (network : Network) (driven : ℕ) (ordering : List ℕ) → IsWhole network → Live network driven → IsNodeOrdering network driven ordering → ListsLive network ordering
+lists_live network driven ordering w l o = subst (ListsLive network) (sym o.same) (record { distinct = distinct; live = λ n. (λ v. among_contains n all (into n v), λ c. out n (contains_among n all c)) })
   where
     inner : List ℕ
     inner = live_from o.live driven network.buses (network.nodes - network.buses)

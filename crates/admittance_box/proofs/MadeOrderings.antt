@@ -1,4 +1,4 @@
--- The node order that an assembly makes.
+-- The node ordering that an assembly makes.
 use Rattle.std.proofs.Common.{◌≡◌, ◌≢◌, ◌∙◌, ℕ, zero, suc, ◌+◌, ◌-◌, ◌<◌, ◌≤◌, Bool, true, false, List, [], ◌∷◌, ◌++◌, length, map, get_or, refl, sym, subst, arith, length-append, ◌⊎◌, inl, inr}
 use Rattle.std.proofs.lemmas.List.{get_or_past}
 use Rattle.std.specs.Prelude.{IsTrue, ◌&&◌, ◌==◌, not, if◌then◌else◌}
@@ -14,8 +14,8 @@ use Rattle.net_branch.specs.Whole.{IsWholeNetwork}
 use Rattle.admittance_box.specs.Addends.{Addend, addends_between}
 use Rattle.admittance_box.specs.Assembled.{IsMade, IsKept}
 use Rattle.admittance_box.specs.HeldMatrix.{HasNoGroup, CanAssemble}
-use Rattle.admittance_box.specs.Places.{live_from, node_order, IsNodeOrder}
-use Rattle.admittance_box.proofs.NodeOrders.{below_or}
+use Rattle.admittance_box.specs.Places.{live_from, node_ordering, IsNodeOrdering}
+use Rattle.admittance_box.proofs.NodeOrderings.{below_or}
 
 module _ (live : ℕ → Bool) (driven : ℕ) where
   count_go : (from count : ℕ) (rest : List ℕ) → length rest ≤ count → (t : Bool) → length (if t then from ∷ rest else rest) ≤ suc count
@@ -51,14 +51,14 @@ module _ (live : ℕ → Bool) (driven : ℕ) where
       ]
 
 -- of a network in which the driven node is live, there are at most as many as nodes
-pub order_count : (network : NetNetwork) (driven : ℕ) (order : List ℕ) → IsWholeNetwork network → Live (exact_network network) driven → IsNodeOrder (exact_network network) driven order → length order ≤ network.nodes
-order_count network driven order w l o =
+pub order_count : (network : NetNetwork) (driven : ℕ) (ordering : List ℕ) → IsWholeNetwork network → Live (exact_network network) driven → IsNodeOrdering (exact_network network) driven ordering → length ordering ≤ network.nodes
+order_count network driven ordering w l o =
     subst (λ xs. length xs ≤ network.nodes) (sym o.same) (node_order-count o.live driven network.buses network.nodes w.exact.buses (live_is_node (exact_network network) w.exact driven l))
 
 -- by the marks of live nodes
-pub made_order : (network : NetNetwork) (driven : ℕ) (marks slice : List Bool) (order : List ℕ) → IsWholeNetwork network → AreLive network marks → slice ≡ marks
-    → order ≡ node_order (exact_network network) (λ n. get_or slice n false) driven → IsNodeOrder (exact_network network) driven order
-made_order network driven marks slice order w a e o = record { live = λ n. get_or marks n false; right = right; same = subst (λ s. order ≡ node_order (exact_network network) (λ n. get_or s n false) driven) e o }
+pub made_order : (network : NetNetwork) (driven : ℕ) (marks slice : List Bool) (ordering : List ℕ) → IsWholeNetwork network → AreLive network marks → slice ≡ marks
+    → ordering ≡ node_ordering (exact_network network) (λ n. get_or slice n false) driven → IsNodeOrdering (exact_network network) driven ordering
+made_order network driven marks slice ordering w a e o = record { live = λ n. get_or marks n false; right = right; same = subst (λ s. ordering ≡ node_ordering (exact_network network) (λ n. get_or s n false) driven) e o }
   where
     right : (n : ℕ) → (IsTrue (get_or marks n false) → Live (exact_network network) n) × (Live (exact_network network) n → IsTrue (get_or marks n false))
     right n = go (below_or n network.nodes)
@@ -70,26 +70,26 @@ made_order network driven marks slice order w a e o = record { live = λ n. get_
           λ l. absurd (let below = live_is_node (exact_network network) w.exact n l in omega arith),
         )
 
--- networks with their node order are ready for an assembly
-pub ready_by : (low high : NetNetwork) (driven : ℕ) (marks slice : List Bool) (order : List ℕ) → IsWholeNetwork low → IsPair (exact_network low) (exact_network high) → HasNoGroup (exact_network low) → Live (exact_network low) driven
-    → AreLive low marks → slice ≡ marks → order ≡ node_order (exact_network low) (λ n. get_or slice n false) driven → CanAssemble (exact_network low) (exact_network high) driven order
-ready_by low high driven marks slice order w p n l a e o = record { pair = p; no_group = n; driven_is_live = l; ordered = made_order low driven marks slice order w a e o }
+-- networks with their node ordering are ready for an assembly
+pub ready_by : (low high : NetNetwork) (driven : ℕ) (marks slice : List Bool) (ordering : List ℕ) → IsWholeNetwork low → IsPair (exact_network low) (exact_network high) → HasNoGroup (exact_network low) → Live (exact_network low) driven
+    → AreLive low marks → slice ≡ marks → ordering ≡ node_ordering (exact_network low) (λ n. get_or slice n false) driven → CanAssemble (exact_network low) (exact_network high) driven ordering
+ready_by low high driven marks slice ordering w p n l a e o = record { pair = p; no_group = n; driven_is_live = l; ordered = made_order low driven marks slice ordering w a e o }
 
 -- what an assembly of copies keeps
-pub kept_by : (s : ℕ) (low high low' high' : NetNetwork) (driven : ℕ) (order order' : List ℕ) (ls hs : List NetBranch) (addends : List Addend) → low' ≡ low → high' ≡ high → order' ≡ order → ls ≡ low.branches → hs ≡ high.branches → IsWholeNetwork low
-    → CanAssemble (exact_network low) (exact_network high) driven order → addends ≡ addends_between s order' (map exact_branch ls) (map exact_branch hs)
-    → IsKept s (record { low = exact_network low'; high = exact_network high'; driven = driven; order = order }) addends
-kept_by s low high low' high' driven order order' ls hs addends e f o p q w can same =
+pub kept_by : (s : ℕ) (low high low' high' : NetNetwork) (driven : ℕ) (ordering ordering' : List ℕ) (ls hs : List NetBranch) (addends : List Addend) → low' ≡ low → high' ≡ high → ordering' ≡ ordering → ls ≡ low.branches → hs ≡ high.branches → IsWholeNetwork low
+    → CanAssemble (exact_network low) (exact_network high) driven ordering → addends ≡ addends_between s ordering' (map exact_branch ls) (map exact_branch hs)
+    → IsKept s (record { low = exact_network low'; high = exact_network high'; driven = driven; ordering = ordering }) addends
+kept_by s low high low' high' driven ordering ordering' ls hs addends e f o p q w can same =
     rw (e, f)
     (record {
       whole = w.exact;
       ready = can;
-      few_nodes = let few = order_count low driven order w can.driven_is_live can.ordered in let limit = w.limits.nodes in omega arith;
+      few_nodes = let few = order_count low driven ordering w can.driven_is_live can.ordered in let limit = w.limits.nodes in omega arith;
       few_branches = let limit = w.limits.branches in let count = length-map exact_branch low.branches in omega arith;
       same = same ∙ rw (o, p, q) refl;
     })
 
 -- and what contracts see of it
-pub made_by : (low high low' high' : NetNetwork) (driven : ℕ) (order : List ℕ) → low' ≡ low → high' ≡ high → CanAssemble (exact_network low) (exact_network high) driven order
-    → IsMade (exact_network low) (exact_network high) driven (record { low = exact_network low'; high = exact_network high'; driven = driven; order = order })
-made_by low high low' high' driven order e f can = rw (e, f) (record { from_low = refl; to_high = refl; at = refl; ready = can })
+pub made_by : (low high low' high' : NetNetwork) (driven : ℕ) (ordering : List ℕ) → low' ≡ low → high' ≡ high → CanAssemble (exact_network low) (exact_network high) driven ordering
+    → IsMade (exact_network low) (exact_network high) driven (record { low = exact_network low'; high = exact_network high'; driven = driven; ordering = ordering })
+made_by low high low' high' driven ordering e f can = rw (e, f) (record { from_low = refl; to_high = refl; at = refl; ready = can })
