@@ -1,4 +1,4 @@
--- Boxes that hold a matrix, entry by entry, and one of them changed.
+-- Rectangles that hold a matrix, entry by entry, and one of them changed.
 use Rattle.std.proofs.Common.{◌≡◌, ◌≢◌, ℕ, zero, suc, Bool, true, false, List, [], ◌∷◌, length, refl, sym, subst, ap, arith, Option, ◌⊎◌, inl, inr}
 use Rattle.std.specs.Prelude.{Some, None, ◌==◌, replicate, slice_get, slice_set, if◌then◌else◌}
 use Rattle.std.specs.List.{AllZip, AllByRecursion}

@@ -9,7 +9,7 @@ use Rattle.exact_algebra.proofs.Holding.{holds_along}
 use Rattle.exact_algebra.proofs.Ratios.{ratio_ring}
 use Rattle.exact_algebra.proofs.Reader.{reads, ring, none_left}
 use Rattle.complex_interval.specs.Ends.{Ends, Encloses, range_ends}
-use Rattle.complex_interval.specs.Boxes.{Box, EnclosesComplex}
+use Rattle.complex_interval.specs.Rectangles.{Rectangle, EnclosesComplex}
 use Rattle.complex_interval.proofs.Ranges.{range_encloses}
 use Rattle.network_theory.specs.Order.{Order, fraction}
 use Rattle.network_theory.specs.Branch.{Tap, Law, Series, Shunt, Coupled3, Branch}
@@ -23,11 +23,11 @@ use Rattle.network_theory.proofs.Numbers.{R}
 use Rattle.network_theory.proofs.Carried.{IsAmong}
 use Rattle.network_theory.proofs.Bridge.{contains_among}
 use Rattle.network_theory.proofs.Whole.{split_admittances}
-use Rattle.plain_elimination.specs.Matrix.{nought_box}
+use Rattle.plain_elimination.specs.Matrix.{nought_rectangle}
 use Rattle.plain_elimination.specs.Elimination.{HoldsRows}
 use Rattle.admittance_box.specs.Addends.{LawEnds, OfSeries, OfShunt, PlacedTap, TapPair, Dead, law_between, taps_between, tap_pairs, has_place, joined, addend_between, addends_between}
 use Rattle.admittance_box.specs.Admittance.{SeriesEnds}
-use Rattle.admittance_box.specs.BoxMatrix.{law_box, with_pairs, with_addend, with_addends, or_branch, nought_rows, box_matrix}
+use Rattle.admittance_box.specs.BoxMatrix.{law_rectangle, with_pairs, with_addend, with_addends, or_branch, nought_rows, box_matrix}
 use Rattle.admittance_box.specs.HeldMatrix.{BoxMatrixHolds}
 use Rattle.admittance_box.specs.Orders.{order_ends}
 use Rattle.admittance_box.specs.Places.{place_of}
@@ -46,12 +46,12 @@ open complex_field use {same, back, next}
 
 -- ---- one law
 -- a law between two, whose intervals have an admittance with a value, has one, which is held
-pub law_held : (s : ℕ) (ordering : Ends) (h : Order) → Encloses s ordering (fraction h) → (l u v : Law) (ends : LawEnds) (a : Box) → LawUpTo l v → LawUpTo v u → law_between s l u ≡ Some ends → law_box s ordering ends ≡ Some a
+pub law_held : (s : ℕ) (ordering : Ends) (h : Order) → Encloses s ordering (fraction h) → (l u v : Law) (ends : LawEnds) (a : Rectangle) → LawUpTo l v → LawUpTo v u → law_between s l u ≡ Some ends → law_rectangle s ordering ends ≡ Some a
     → (y : Complex) × IsAdmittance h v y × EnclosesComplex s a y
 law_held s ordering h ho (Series r k m x xc) (Series r' k' m' x' xc') (Series vr vk vm vx vc) ends a p q e g =
     let (ps, e1, e2) = map-some (series_between s r k m x xc r' k' m' x' xc') e in
     let held = series_held s r k m x xc r' k' m' x' xc' ps e1 vr vk vm vx vc p.0 q.0 p.1 q.1 p.2 q.2 p.3 q.3 p.4 q.4 in
-    series_encloses s ps ordering a h vr vk vm vx vc ho held (subst (λ l. law_box s ordering l ≡ Some a) e2 g)
+    series_encloses s ps ordering a h vr vk vm vx vc ho held (subst (λ l. law_rectangle s ordering l ≡ Some a) e2 g)
   where
     map-some : (o : Option SeriesEnds) → option_map OfSeries o ≡ Some ends → (t : SeriesEnds) × (o ≡ Some t) × (ends ≡ OfSeries t)
     map-some (Some t) f = (t, refl, cc)
@@ -62,7 +62,7 @@ law_held s ordering h ho (Series r k m x xc) u (Shunt vb) ends a p q e g = absur
 law_held s ordering h ho (Series r k m x xc) u (Coupled3 place values) ends a p q e g = absurd p
 law_held s ordering h ho (Shunt b) (Shunt c) (Shunt vb) ends a p q e g =
     let (t, e1, e2) = map-some (range_ends s b c) e in
-    (shunt_admittance vb h, same _, shunt_encloses s t ordering a h vb ho (range_encloses s b c vb p q t e1) (subst (λ l. law_box s ordering l ≡ Some a) e2 g))
+    (shunt_admittance vb h, same _, shunt_encloses s t ordering a h vb ho (range_encloses s b c vb p q t e1) (subst (λ l. law_rectangle s ordering l ≡ Some a) e2 g))
   where
     map-some : (o : Option Ends) → option_map OfShunt o ≡ Some ends → (t : Ends) × (o ≡ Some t) × (ends ≡ OfShunt t)
     map-some (Some t) f = (t, refl, cc)
@@ -127,13 +127,13 @@ uncoupled_up a b p u = go a.law b.law p.law u
 -- ---- one branch, and all
 module _ (s : ℕ) (ordering : List ℕ) (ends : Ends) (h : Order) (ho : Encloses s ends (fraction h)) (network : Network) (listed : ListsLive network ordering) where
   -- what a branch adds is held
-  record HeldBranch (f : ℕ → ℕ → Complex) (b : Branch) (after : List (List Box)) : Type 0 where
+  record HeldBranch (f : ℕ → ℕ → Complex) (b : Branch) (after : List (List Rectangle)) : Type 0 where
     y : Complex
     admitted : HasLiveNode network b → IsAdmittance h b.law y
     held : Held s ordering (λ n k. f n k ⊕ pair_entry b.taps b.taps y n k) after
 
   joined_held : (a c b : Branch) → BranchUpTo a b → BranchUpTo b c → (law : Option LawEnds) → law_between s a.law c.law ≡ law → (taps : Option (List PlacedTap)) → taps_between s ordering a.taps c.taps ≡ taps
-      → (rows after : List (List Box)) (f : ℕ → ℕ → Complex) → with_addend s ends (joined law (taps >>= (λ ts. tap_pairs s ts ts))) rows ≡ Some after → Held s ordering f rows → HeldBranch f b after
+      → (rows after : List (List Rectangle)) (f : ℕ → ℕ → Complex) → with_addend s ends (joined law (taps >>= (λ ts. tap_pairs s ts ts))) rows ≡ Some after → Held s ordering f rows → HeldBranch f b after
   joined_held a c b p q None e taps i rows after f g held = absurd cc
   joined_held a c b p q (Some law) e None i rows after f g held = absurd cc
   joined_held a c b p q (Some law) e (Some taps) i rows after f g held = go (tap_pairs s taps taps) refl g
@@ -144,15 +144,15 @@ module _ (s : ℕ) (ordering : List ℕ) (ends : Ends) (h : Order) (ho : Enclose
       go : (pairs : Option (List TapPair)) → tap_pairs s taps taps ≡ pairs → with_addend s ends (joined (Some law) pairs) rows ≡ Some after → HeldBranch f b after
       go None k m = absurd cc
       go (Some pairs) k m =
-          let (box, e1, e2) = bind-some (law_box s ends law) (λ y. with_pairs s y pairs rows) after m in
-          let (y, is, has) = law_held s ends h ho a.law c.law b.law law box p.law q.law e e1 in
+          let (admittance, e1, e2) = bind-some (law_rectangle s ends law) (λ y. with_pairs s y pairs rows) after m in
+          let (y, is, has) = law_held s ends h ho a.law c.law b.law law admittance p.law q.law e e1 in
           record {
             y = y;
             admitted = λ l. is;
-            held = pairs_hold s ordering listed.distinct box y has taps b.taps at_taps taps b.taps at_taps pairs k rows after f e2 held;
+            held = pairs_hold s ordering listed.distinct admittance y has taps b.taps at_taps taps b.taps at_taps pairs k rows after f e2 held;
           }
 
-  branch_held : (a c b : Branch) → BranchUpTo a b → BranchUpTo b c → (rows after : List (List Box)) (f : ℕ → ℕ → Complex) → with_addend s ends (addend_between s ordering a c) rows ≡ Some after → Held s ordering f rows → HeldBranch f b after
+  branch_held : (a c b : Branch) → BranchUpTo a b → BranchUpTo b c → (rows after : List (List Rectangle)) (f : ℕ → ℕ → Complex) → with_addend s ends (addend_between s ordering a c) rows ≡ Some after → Held s ordering f rows → HeldBranch f b after
   branch_held a c b p q rows after f g held = go (has_place ordering a.taps) refl g
     where
       go : (t : Bool) → has_place ordering a.taps ≡ t → with_addend s ends (if t then joined (law_between s a.law c.law) (taps_between s ordering a.taps c.taps >>= (λ ts. tap_pairs s ts ts)) else Dead) rows ≡ Some after → HeldBranch f b after
@@ -165,22 +165,22 @@ module _ (s : ℕ) (ordering : List ℕ) (ends : Ends) (h : Order) (ho : Enclose
       }
 
   -- exact admittances of branches, whose sums with f are held
-  pub record HeldSum (bs : List Branch) (f : ℕ → ℕ → Complex) (boxes : List (List Box)) : Type 0 where
+  pub record HeldSum (bs : List Branch) (f : ℕ → ℕ → Complex) (matrix : List (List Rectangle)) : Type 0 where
     pub parts : List Part
     pub split : IsSplit bs parts
     pub live : EachLivePart network h parts
-    pub held : Held s ordering (λ n k. f n k ⊕ nodal_entry parts n k) boxes
+    pub held : Held s ordering (λ n k. f n k ⊕ nodal_entry parts n k) matrix
 
-  pub addends_held : (ls hs bs : List Branch) → AllZip BranchUpTo ls bs → AllZip BranchUpTo bs hs → AllByRecursion IsUncoupled ls → (i : ℕ) (rows boxes : List (List Box)) (f : ℕ → ℕ → Complex)
-      → with_addends s ends i (addends_between s ordering ls hs) rows ≡ Ok boxes → Held s ordering f rows → HeldSum bs f boxes
-  addends_held [] hs [] p q u i rows boxes f e held =
-      let is : rows ≡ boxes = cc in
+  pub addends_held : (ls hs bs : List Branch) → AllZip BranchUpTo ls bs → AllZip BranchUpTo bs hs → AllByRecursion IsUncoupled ls → (i : ℕ) (rows matrix : List (List Rectangle)) (f : ℕ → ℕ → Complex)
+      → with_addends s ends i (addends_between s ordering ls hs) rows ≡ Ok matrix → Held s ordering f rows → HeldSum bs f matrix
+  addends_held [] hs [] p q u i rows matrix f e held =
+      let is : rows ≡ matrix = cc in
       record { parts = []; split = end; live = tt; held = subst (Held s ordering (λ n k. f n k ⊕ nought)) is (held_along s ordering f (λ n k. f n k ⊕ nought) rows (λ n k. plus-none (f n k) nought (same _)) held) }
-  addends_held [] hs (b ∷ bs) p q u i rows boxes f e held = absurd p
-  addends_held (l ∷ ls) hs [] p q u i rows boxes f e held = absurd p
-  addends_held (l ∷ ls) [] (b ∷ bs) p q u i rows boxes f e held = absurd q
-  addends_held (l ∷ ls) (c ∷ hs) (b ∷ bs) p q u i rows boxes f e held =
-      go (with_addend s ends (addend_between s ordering l c) rows) refl e (λ mid g m. addends_held ls hs bs p.1 q.1 u.1 (suc i) mid boxes g m)
+  addends_held [] hs (b ∷ bs) p q u i rows matrix f e held = absurd p
+  addends_held (l ∷ ls) hs [] p q u i rows matrix f e held = absurd p
+  addends_held (l ∷ ls) [] (b ∷ bs) p q u i rows matrix f e held = absurd q
+  addends_held (l ∷ ls) (c ∷ hs) (b ∷ bs) p q u i rows matrix f e held =
+      go (with_addend s ends (addend_between s ordering l c) rows) refl e (λ mid g m. addends_held ls hs bs p.1 q.1 u.1 (suc i) mid matrix g m)
     where
       only : (o : Branch) → Contains (b ∷ []) o → b ≡ o
       only o k = at k.0 k.1 k.2
@@ -192,8 +192,8 @@ module _ (s : ℕ) (ordering : List ℕ) (ends : Ends) (h : Order) (ho : Enclose
       regroup : (a b c : Complex) → (a ⊕ b) ⊕ c ≈ a ⊕ (b ⊕ c)
       regroup a b c = ring R (a ∷ b ∷ c ∷ []) (search reads depth 40 fits 4000) none_left
 
-      go : (o : Option (List (List Box))) → with_addend s ends (addend_between s ordering l c) rows ≡ o → or_branch i o (with_addends s ends (suc i) (addends_between s ordering ls hs)) ≡ Ok boxes
-          → ((mid : List (List Box)) (g : ℕ → ℕ → Complex) → with_addends s ends (suc i) (addends_between s ordering ls hs) mid ≡ Ok boxes → Held s ordering g mid → HeldSum bs g boxes) → HeldSum (b ∷ bs) f boxes
+      go : (o : Option (List (List Rectangle))) → with_addend s ends (addend_between s ordering l c) rows ≡ o → or_branch i o (with_addends s ends (suc i) (addends_between s ordering ls hs)) ≡ Ok matrix
+          → ((mid : List (List Rectangle)) (g : ℕ → ℕ → Complex) → with_addends s ends (suc i) (addends_between s ordering ls hs) mid ≡ Ok matrix → Held s ordering g mid → HeldSum bs g matrix) → HeldSum (b ∷ bs) f matrix
       go None k m more = absurd cc
       go (Some mid) k m more =
           let here = branch_held l c b p.0 q.0 rows mid f k held in
@@ -202,7 +202,7 @@ module _ (s : ℕ) (ordering : List ℕ) (ends : Ends) (h : Order) (ho : Enclose
             parts = Alone b here.y ∷ rest.parts;
             split = one b here.y bs rest.parts (uncoupled_up l b p.0 u.0) rest.split;
             live = (λ o k v. alone b here.y (here.admitted (subst (HasLiveNode network) (sym (only o k)) v)), rest.live);
-            held = held_along s ordering (λ n k. (f n k ⊕ pair_entry b.taps b.taps here.y n k) ⊕ nodal_entry rest.parts n k) (λ n k. f n k ⊕ nodal_entry (Alone b here.y ∷ rest.parts) n k) boxes
+            held = held_along s ordering (λ n k. (f n k ⊕ pair_entry b.taps b.taps here.y n k) ⊕ nodal_entry rest.parts n k) (λ n k. f n k ⊕ nodal_entry (Alone b here.y ∷ rest.parts) n k) matrix
                 (λ n k. regroup (f n k) (pair_entry b.taps b.taps here.y n k) (nodal_entry rest.parts n k)) rest.held;
           }
 
@@ -219,19 +219,19 @@ rows_of : (f : ℕ → ℕ → Complex) (ordering nodes : List ℕ) → AllZip (
 rows_of f ordering [] = tt
 rows_of f ordering (n ∷ nodes) = (row_of (f n) ordering, rows_of f ordering nodes)
 
-row_held : (s : ℕ) (g : ℕ → Complex) (ordering : List ℕ) (row : List Box) → AllZip (λ k e. EnclosesComplex s e (g k)) ordering row → AllZip (EnclosesComplex s) row (map g ordering)
+row_held : (s : ℕ) (g : ℕ → Complex) (ordering : List ℕ) (row : List Rectangle) → AllZip (λ k e. EnclosesComplex s e (g k)) ordering row → AllZip (EnclosesComplex s) row (map g ordering)
 row_held s g [] [] z = tt
 row_held s g [] (e ∷ row) z = absurd z
 row_held s g (k ∷ ordering) [] z = absurd z
 row_held s g (k ∷ ordering) (e ∷ row) z = (z.0, row_held s g ordering row z.1)
 
-rows_held : (s : ℕ) (f : ℕ → ℕ → Complex) (ordering nodes : List ℕ) (rows : List (List Box)) → AllZip (λ n row. AllZip (λ k e. EnclosesComplex s e (f n k)) ordering row) nodes rows → HoldsRows (EnclosesComplex s) rows (exact_rows f ordering nodes)
+rows_held : (s : ℕ) (f : ℕ → ℕ → Complex) (ordering nodes : List ℕ) (rows : List (List Rectangle)) → AllZip (λ n row. AllZip (λ k e. EnclosesComplex s e (f n k)) ordering row) nodes rows → HoldsRows (EnclosesComplex s) rows (exact_rows f ordering nodes)
 rows_held s f ordering [] [] z = tt
 rows_held s f ordering [] (r ∷ rows) z = absurd z
 rows_held s f ordering (n ∷ nodes) [] z = absurd z
 rows_held s f ordering (n ∷ nodes) (r ∷ rows) z = (row_held s (f n) ordering r z.0, rows_held s f ordering nodes rows z.1)
 
-nought_held : (s : ℕ) → EnclosesComplex s nought_box nought
+nought_held : (s : ℕ) → EnclosesComplex s nought_rectangle nought
 nought_held s = record {
   re = holds_along _ _ s _ _ (ratio_ring.back (re-complex_whole (pos 0))) (zero_encloses s);
   im = holds_along _ _ s _ _ (ratio_ring.back (im-complex_whole (pos 0))) (zero_encloses s);
@@ -242,12 +242,12 @@ plain_sum a = ring R (a ∷ []) (search reads depth 40 fits 4000) none_left
 
 pub box_matrix_holds : (s : ℕ) → BoxMatrixHolds s
 unfolding box_matrix
-box_matrix_holds s low high driven ordering can lo hi boxes e h i lies network between =
+box_matrix_holds s low high driven ordering can lo hi matrix e h i lies network between =
     let ordered = order_along low network driven ordering between.from_low can.ordered in
     let listed = lists_live network driven ordering between.whole (live_up low network between.from_low driven can.driven_is_live) ordered in
-    let start : Held s ordering (λ n k. nought) (nought_rows (length ordering)) = entries_same (λ n k b. EnclosesComplex s b nought) nought_box (λ n k. nought_held s) ordering in
+    let start : Held s ordering (λ n k. nought) (nought_rows (length ordering)) = entries_same (λ n k b. EnclosesComplex s b nought) nought_rectangle (λ n k. nought_held s) ordering in
     let sum = addends_held s ordering (order_ends s lo hi) h (order_encloses s lo hi h i lies) network listed low.branches high.branches network.branches between.from_low.branches between.to_high.branches can.no_group
-    0 (nought_rows (length ordering)) boxes (λ n k. nought) e start in
+    0 (nought_rows (length ordering)) matrix (λ n k. nought) e start in
     let (n, last) = is_last low driven ordering can.ordered in
     record {
       parts = sum.parts;
@@ -259,5 +259,5 @@ box_matrix_holds s low high driven ordering can lo hi boxes e h i lies network b
         entries = rows_of (nodal_entry sum.parts) ordering ordering;
       };
       last = last;
-      held = rows_held s (nodal_entry sum.parts) ordering ordering boxes (held_along s ordering (λ n k. nought ⊕ nodal_entry sum.parts n k) (nodal_entry sum.parts) boxes (λ n k. plain_sum (nodal_entry sum.parts n k)) sum.held);
+      held = rows_held s (nodal_entry sum.parts) ordering ordering matrix (held_along s ordering (λ n k. nought ⊕ nodal_entry sum.parts n k) (nodal_entry sum.parts) matrix (λ n k. plain_sum (nodal_entry sum.parts n k)) sum.held);
     }

@@ -11,8 +11,8 @@ use Rattle.exact_algebra.proofs.Reader.{reads, ring, linear, weigh, join, none_l
 use Rattle.exact_algebra.proofs.Reals.{re-real, im-real}
 use Rattle.linear_systems.specs.Assembly.{where_equal}
 use Rattle.complex_interval.specs.Ends.{Ends, Encloses, mul_ends}
-use Rattle.complex_interval.specs.Boxes.{Box, EnclosesComplex}
-use Rattle.complex_interval.proofs.BoxLaws.{add_encloses_box, scale_encloses_box}
+use Rattle.complex_interval.specs.Rectangles.{Rectangle, EnclosesComplex}
+use Rattle.complex_interval.proofs.RectangleLaws.{add_encloses_rectangle, scale_encloses_rectangle}
 use Rattle.complex_interval.proofs.Held.{mul_encloses}
 use Rattle.complex_interval.proofs.Ranges.{range_encloses}
 use Rattle.network_theory.specs.Branch.{Tap}
@@ -29,8 +29,8 @@ use Rattle.admittance_box.proofs.Steps.{bind-some}
 open complex_numbers use {◌≈◌, nought, unit, ◌⊕◌, ◌⊗◌, minus}
 open complex_field use {same, back, next}
 
--- a box that holds a number holds each equal one
-pub along : (s : ℕ) (a : Box) (z w : Complex) → z ≈ w → EnclosesComplex s a z → EnclosesComplex s a w
+-- a rectangle that holds a number holds each equal one
+pub along : (s : ℕ) (a : Rectangle) (z w : Complex) → z ≈ w → EnclosesComplex s a z → EnclosesComplex s a w
 along s a z w e p = record { re = holds_along _ _ s _ _ e.re p.re; im = holds_along _ _ s _ _ e.im p.im }
 
 -- a number scaled is its product
@@ -52,11 +52,11 @@ scaled-is z x =
           (search reads depth 40 fits 4000) none_left;
     }
 
--- the boxes hold f of each two nodes
-abbrev pub Held : ℕ → List ℕ → (ℕ → ℕ → Complex) → List (List Box) → Type 0
+-- the rectangles hold f of each two nodes
+abbrev pub Held : ℕ → List ℕ → (ℕ → ℕ → Complex) → List (List Rectangle) → Type 0
 Held s ordering f rows = AtEntries (λ n k e. EnclosesComplex s e (f n k)) ordering ordering rows
 
-pub held_along : (s : ℕ) (ordering : List ℕ) (f g : ℕ → ℕ → Complex) (rows : List (List Box)) → ((n k : ℕ) → f n k ≈ g n k) → Held s ordering f rows → Held s ordering g rows
+pub held_along : (s : ℕ) (ordering : List ℕ) (f g : ℕ → ℕ → Complex) (rows : List (List Rectangle)) → ((n k : ℕ) → f n k ≈ g n k) → Held s ordering f rows → Held s ordering g rows
 held_along s ordering f g rows e = entries_map (λ n k b. EnclosesComplex s b (f n k)) (λ n k b. EnclosesComplex s b (g n k)) (λ n k b. along s b (f n k) (g n k) (e n k)) ordering ordering rows
 
 -- a placed tap stands for an exact one: its node's place, and its ratio
@@ -122,9 +122,9 @@ plus-none a b e = linear R (a ∷ b ∷ []) (weigh R (minus unit) e) (search rea
 plus-same : (a b c : Complex) → b ≈ c → a ⊕ c ≈ a ⊕ b
 plus-same a b c e = linear R (a ∷ b ∷ c ∷ []) (weigh R (minus unit) e) (search reads depth 40 fits 4000) none_left
 
-module _ (s : ℕ) (ordering : List ℕ) (distinct : IsDistinct ordering) (y : Box) (z : Complex) (y_held : EnclosesComplex s y z) where
+module _ (s : ℕ) (ordering : List ℕ) (distinct : IsDistinct ordering) (y : Rectangle) (z : Complex) (y_held : EnclosesComplex s y z) where
   -- one pair
-  grown_holds : (p q : PlacedTap) (v w : Tap) (factor : Ends) (rows after : List (List Box)) (f : ℕ → ℕ → Complex) → HoldsTap s ordering p v → HoldsTap s ordering q w → mul_ends s p.ratio q.ratio ≡ Some factor
+  grown_holds : (p q : PlacedTap) (v w : Tap) (factor : Ends) (rows after : List (List Rectangle)) (f : ℕ → ℕ → Complex) → HoldsTap s ordering p v → HoldsTap s ordering q w → mul_ends s p.ratio q.ratio ≡ Some factor
       → grown s y (record { row = p.place; column = q.place; factor = factor }) rows ≡ Some after → Held s ordering f rows → Held s ordering (λ n k. f n k ⊕ pair_of v w z n k) after
   grown_holds p q v w factor rows after f hp hq e g held =
       let (more, e1, n1) = bind-some _ _ after g in
@@ -132,26 +132,26 @@ module _ (s : ℕ) (ordering : List ℕ) (distinct : IsDistinct ordering) (y : B
       let (sum, e3, e4) = bind-some _ _ after n2 in
       let is : set_entry rows p.place q.place sum ≡ after = cc in
       let exact = real (times v.ratio w.ratio) ⊗ z in
-      let more_held = along s more _ exact (scaled-is z (times v.ratio w.ratio)) (scale_encloses_box s y more factor z (times v.ratio w.ratio) y_held (mul_encloses s p.ratio q.ratio v.ratio w.ratio hp.ratio hq.ratio factor e) e1) in
-      let P : ℕ → ℕ → Box → Type 0 = λ n k b. EnclosesComplex s b (f n k) in
-      let Q : ℕ → ℕ → Box → Type 0 = λ n k b. EnclosesComplex s b (f n k ⊕ pair_of v w z n k) in
+      let more_held = along s more _ exact (scaled-is z (times v.ratio w.ratio)) (scale_encloses_rectangle s y more factor z (times v.ratio w.ratio) y_held (mul_encloses s p.ratio q.ratio v.ratio w.ratio hp.ratio hq.ratio factor e) e1) in
+      let P : ℕ → ℕ → Rectangle → Type 0 = λ n k b. EnclosesComplex s b (f n k) in
+      let Q : ℕ → ℕ → Rectangle → Type 0 = λ n k b. EnclosesComplex s b (f n k ⊕ pair_of v w z n k) in
       subst (Held s ordering (λ n k. f n k ⊕ pair_of v w z n k)) is
       (entry_set P Q v.node w.node ordering ordering rows p.place q.place before sum distinct distinct hp.place hq.place e2
       (λ n k b ne has. along s b (f n k) (f n k ⊕ pair_of v w z n k) (plus-none _ _ (pair-none v w z n k ne)) has)
-      (λ has. along s sum _ _ (plus-same _ _ _ (pair-here v w z)) (add_encloses_box s before more sum (f v.node w.node) exact has more_held e3))
+      (λ has. along s sum _ _ (plus-same _ _ _ (pair-here v w z)) (add_encloses_rectangle s before more sum (f v.node w.node) exact has more_held e3))
       held)
 
-  with_pairs-append : (xs ys : List TapPair) (rows : List (List Box)) → with_pairs s y (xs ++ ys) rows ≡ (with_pairs s y xs rows >>= with_pairs s y ys)
+  with_pairs-append : (xs ys : List TapPair) (rows : List (List Rectangle)) → with_pairs s y (xs ++ ys) rows ≡ (with_pairs s y xs rows >>= with_pairs s y ys)
   with_pairs-append [] ys rows = refl
   with_pairs-append (x ∷ xs) ys rows = go (grown s y x rows) (with_pairs-append xs ys)
     where
-      go : (o : Option (List (List Box))) → ((r : List (List Box)) → with_pairs s y (xs ++ ys) r ≡ (with_pairs s y xs r >>= with_pairs s y ys)) → (o >>= with_pairs s y (xs ++ ys)) ≡ ((o >>= with_pairs s y xs) >>= with_pairs s y ys)
+      go : (o : Option (List (List Rectangle))) → ((r : List (List Rectangle)) → with_pairs s y (xs ++ ys) r ≡ (with_pairs s y xs r >>= with_pairs s y ys)) → (o >>= with_pairs s y (xs ++ ys)) ≡ ((o >>= with_pairs s y xs) >>= with_pairs s y ys)
       go (Some r) h = h r
       go None h = refl
 
   -- the pairs of one tap
   row_holds : (p : PlacedTap) (v : Tap) → HoldsTap s ordering p v → (qs : List PlacedTap) (ws : List Tap) → AllZip (HoldsTap s ordering) qs ws → (pairs : List TapPair) → pairs_with s p qs ≡ Some pairs
-      → (rows after : List (List Box)) (f : ℕ → ℕ → Complex) → with_pairs s y pairs rows ≡ Some after → Held s ordering f rows → Held s ordering (λ n k. f n k ⊕ where_equal complex_numbers v.node n (tap_entry v ws z k)) after
+      → (rows after : List (List Rectangle)) (f : ℕ → ℕ → Complex) → with_pairs s y pairs rows ≡ Some after → Held s ordering f rows → Held s ordering (λ n k. f n k ⊕ where_equal complex_numbers v.node n (tap_entry v ws z k)) after
   row_holds p v hp [] [] h pairs e rows after f g held =
       let none : [] ≡ pairs = cc in
       let is : rows ≡ after = cc in
@@ -183,7 +183,7 @@ module _ (s : ℕ) (ordering : List ℕ) (distinct : IsDistinct ordering) (y : B
 
   -- all pairs of two lists of taps
   pub pairs_hold : (ps : List PlacedTap) (vs : List Tap) → AllZip (HoldsTap s ordering) ps vs → (qs : List PlacedTap) (ws : List Tap) → AllZip (HoldsTap s ordering) qs ws → (pairs : List TapPair) → tap_pairs s ps qs ≡ Some pairs
-      → (rows after : List (List Box)) (f : ℕ → ℕ → Complex) → with_pairs s y pairs rows ≡ Some after → Held s ordering f rows → Held s ordering (λ n k. f n k ⊕ pair_entry vs ws z n k) after
+      → (rows after : List (List Rectangle)) (f : ℕ → ℕ → Complex) → with_pairs s y pairs rows ≡ Some after → Held s ordering f rows → Held s ordering (λ n k. f n k ⊕ pair_entry vs ws z n k) after
   pairs_hold [] [] a qs ws h pairs e rows after f g held =
       let none : [] ≡ pairs = cc in
       let is : rows ≡ after = cc in

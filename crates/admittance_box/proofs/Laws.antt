@@ -9,16 +9,16 @@ use Rattle.exact_algebra.proofs.Quotients.{quotient_is}
 use Rattle.exact_algebra.proofs.Ratios.{ratio_ring, times_reciprocal}
 use Rattle.exact_algebra.proofs.Reals.{re-plus_j, im-plus_j}
 use Rattle.complex_interval.specs.Ends.{Ends, Encloses, zero_between, mig_of, div_ends}
-use Rattle.complex_interval.specs.Boxes.{Box, EnclosesComplex, div_boxes, div_along, div_across}
-use Rattle.complex_interval.proofs.BoxLaws.{div_side, apart_of, div_encloses_box}
+use Rattle.complex_interval.specs.Rectangles.{Rectangle, EnclosesComplex, div_rectangles, div_along, div_across}
+use Rattle.complex_interval.proofs.RectangleLaws.{div_side, apart_of, div_encloses_rectangle}
 use Rattle.complex_interval.proofs.Held.{outside, add_encloses, sub_encloses, mul_encloses, div_encloses, square_encloses}
 use Rattle.network_theory.specs.Order.{Order, fraction}
 use Rattle.network_theory.specs.Admittance.{IsAdmittance}
 use Rattle.network_theory.specs.Branch.{Series}
 use Rattle.network_theory.specs.Impedance.{resistance, reactance, series_impedance, shunt_admittance}
 use Rattle.network_theory.proofs.OneBus.{resistance_plain}
-use Rattle.admittance_box.specs.Exact.{zero_ends, one_ends, one_box}
-use Rattle.admittance_box.specs.Admittance.{SeriesEnds, skin_ends, resistance_ends, reactance_ends, series_admittance_box, shunt_admittance_box}
+use Rattle.admittance_box.specs.Exact.{zero_ends, one_ends, one_rectangle}
+use Rattle.admittance_box.specs.Admittance.{SeriesEnds, skin_ends, resistance_ends, reactance_ends, series_admittance_rectangle, shunt_admittance_rectangle}
 use Rattle.admittance_box.specs.Held.{HoldsSeries, HoldsResistance, HoldsSeriesAdmittance, HoldsShuntAdmittance}
 use Rattle.admittance_box.proofs.Ranges.{one_encloses, zero_encloses}
 use Rattle.admittance_box.proofs.Steps.{bind-some, if_some}
@@ -33,7 +33,7 @@ mig_apart s a x e p = by (zero_between a) refl
     by false z = apart_of s a x (outside a z) p
 
 -- a divisor of a quotient with a value is not zero
-pub divisor_apart : (s : ℕ) (a b r : Box) (w : Complex) → EnclosesComplex s b w → div_boxes s a b ≡ Some r → ¬ (w ≅ complex_whole (pos 0))
+pub divisor_apart : (s : ℕ) (a b r : Rectangle) (w : Complex) → EnclosesComplex s b w → div_rectangles s a b ≡ Some r → ¬ (w ≅ complex_whole (pos 0))
 divisor_apart s a b r w p e = by (mig_of b.re == 0) (mig_of b.im == 0) refl refl e
   where
     by : (t u : Bool) → (mig_of b.re == 0) ≡ t → (mig_of b.im == 0) ≡ u → (if t && u then None else if nat_le (mig_of b.im) (mig_of b.re) then div_along s a b else div_across s a b) ≡ Some r → ¬ (w ≅ complex_whole (pos 0))
@@ -90,15 +90,15 @@ plus_j_encloses s a b x y p q = record {
   im = holds_along _ _ s _ _ (ratio_ring.back (im-plus_j x y)) q;
 }
 
-one_box_encloses : (s : ℕ) → EnclosesComplex s (one_box s) (complex_whole (pos 1))
-one_box_encloses s = record {
+one_rectangle_encloses : (s : ℕ) → EnclosesComplex s (one_rectangle s) (complex_whole (pos 1))
+one_rectangle_encloses s = record {
   re = holds_along _ _ s _ _ (ratio_ring.back (re-complex_whole (pos 1))) (one_encloses s);
   im = holds_along _ _ s _ _ (ratio_ring.back (im-complex_whole (pos 1))) (zero_encloses s);
 }
 
-module _ (s : ℕ) (p : SeriesEnds) (order : Ends) (b : Box) (h : Order) (r k m x xc : Ratio) (ho : Encloses s order (fraction h)) (held : HoldsSeries s p r k m x xc) (e : series_admittance_box s p order ≡ Some b) where
+module _ (s : ℕ) (p : SeriesEnds) (order : Ends) (b : Rectangle) (h : Order) (r k m x xc : Ratio) (ho : Encloses s order (fraction h)) (held : HoldsSeries s p r k m x xc) (e : series_admittance_rectangle s p order ≡ Some b) where
   -- the impedance is held, and its quotient has a value
-  impedance_held : (z : Box) × EnclosesComplex s z (series_impedance r k m x xc h) × (div_boxes s (one_box s) z ≡ Some b)
+  impedance_held : (z : Rectangle) × EnclosesComplex s z (series_impedance r k m x xc h) × (div_rectangles s (one_rectangle s) z ≡ Some b)
   unfolding series_impedance
   impedance_held =
       let (re, e1, n1) = bind-some _ _ b e in
@@ -109,13 +109,13 @@ module _ (s : ℕ) (p : SeriesEnds) (order : Ends) (b : Box) (h : Order) (r k m 
 
   -- the impedance is not zero
   pub impedance_apart : ¬ (series_impedance r k m x xc h ≅ complex_whole (pos 0))
-  impedance_apart = let (z, hz, d) = impedance_held in divisor_apart s (one_box s) z b _ hz d
+  impedance_apart = let (z, hz, d) = impedance_held in divisor_apart s (one_rectangle s) z b _ hz d
 
   -- its inverse is held, and there is one
   pub inverse_encloses : (y : Complex) → IsAdmittance h (Series r k m x xc) y → EnclosesComplex s b y
   inverse_encloses y i =
       let (z, hz, d) = impedance_held in
-      div_encloses_box s (one_box s) z b (complex_whole (pos 1)) _ y (one_box_encloses s) hz (complex_field.next (complex_field.mul_comm y (series_impedance r k m x xc h)) i) d
+      div_encloses_rectangle s (one_rectangle s) z b (complex_whole (pos 1)) _ y (one_rectangle_encloses s) hz (complex_field.next (complex_field.mul_comm y (series_impedance r k m x xc h)) i) d
 
   pub series_encloses : (y : Complex) × IsAdmittance h (Series r k m x xc) y × EnclosesComplex s b y
   series_encloses =
@@ -123,11 +123,11 @@ module _ (s : ℕ) (p : SeriesEnds) (order : Ends) (b : Box) (h : Order) (r k m 
       let i = complex_field.mul_inverse z impedance_apart in
       (complex_reciprocal z, i, inverse_encloses (complex_reciprocal z) i)
 
-pub shunt_encloses : (s : ℕ) (b order : Ends) (a : Box) (h : Order) (x : Ratio) → Encloses s order (fraction h) → Encloses s b x → shunt_admittance_box s b order ≡ Some a → EnclosesComplex s a (shunt_admittance x h)
+pub shunt_encloses : (s : ℕ) (b order : Ends) (a : Rectangle) (h : Order) (x : Ratio) → Encloses s order (fraction h) → Encloses s b x → shunt_admittance_rectangle s b order ≡ Some a → EnclosesComplex s a (shunt_admittance x h)
 unfolding shunt_admittance
 shunt_encloses s b order a h x ho hb e =
     let (im, e1, e2) = bind-some _ _ a e in
-    let P : Box → Type 0 = λ t. EnclosesComplex s t (shunt_admittance x h) in
+    let P : Rectangle → Type 0 = λ t. EnclosesComplex s t (shunt_admittance x h) in
     let same : record { re = zero_ends; im = im } ≡ a = cc in
     subst P same (plus_j_encloses s zero_ends im _ _ (zero_encloses s) (mul_encloses s order b _ x ho hb im e1))
 
@@ -135,8 +135,8 @@ shunt_encloses s b order a h x ho hb e =
 pub resistance_holds : (s : ℕ) (plain : Bool) (r k m order : Ends) (o : Option Ends) → o ≡ resistance_ends s plain r k m order → HoldsResistance s plain r k m order o
 resistance_holds s plain r k m order o v h i ho vr vk vm hr hk hm n = if_some o _ (λ a e. resistance_encloses s plain r k m order a h vr vk vm ho hr hk hm n (sym v ∙ e))
 
-pub series_holds : (s : ℕ) (p : SeriesEnds) (order : Ends) (o : Option Box) → o ≡ series_admittance_box s p order → HoldsSeriesAdmittance s p order o
+pub series_holds : (s : ℕ) (p : SeriesEnds) (order : Ends) (o : Option Rectangle) → o ≡ series_admittance_rectangle s p order → HoldsSeriesAdmittance s p order o
 series_holds s p order o v h i ho r k m x xc held = if_some o _ (λ b e. series_encloses s p order b h r k m x xc ho held (sym v ∙ e))
 
-pub shunt_holds : (s : ℕ) (b order : Ends) (o : Option Box) → o ≡ shunt_admittance_box s b order → HoldsShuntAdmittance s b order o
+pub shunt_holds : (s : ℕ) (b order : Ends) (o : Option Rectangle) → o ≡ shunt_admittance_rectangle s b order → HoldsShuntAdmittance s b order o
 shunt_holds s b order o v h i ho x hb = if_some o _ (λ a e. shunt_encloses s b order a h x ho hb (sym v ∙ e))

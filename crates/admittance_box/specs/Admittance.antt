@@ -1,8 +1,8 @@
 -- The admittance of a branch over a box of orders, on pairs of ends. It is absent where a step has no value.
 use Rattle.std.specs.Prelude.{ℕ, Bool, Option, Some, if◌then◌else◌}
 use Rattle.complex_interval.specs.Ends.{Ends, add_ends, sub_ends, mul_ends, div_ends, square_ends}
-use Rattle.complex_interval.specs.Boxes.{Box, div_boxes}
-use Rattle.admittance_box.specs.Exact.{zero_ends, one_ends, one_box}
+use Rattle.complex_interval.specs.Rectangles.{Rectangle, div_rectangles}
+use Rattle.admittance_box.specs.Exact.{zero_ends, one_ends, one_rectangle}
 use Rattle.admittance_box.specs.Steps.{◌>>=◌}
 
 -- the parameters of a series branch; plain says that k counts as 0
@@ -37,14 +37,14 @@ reactance_ends s x xc h = do
   sub_ends inductive capacitive
 
 -- 1/(R + jX)
-abbrev pub series_admittance_box : ℕ → SeriesEnds → Ends → Option Box
-series_admittance_box s p h = do
+abbrev pub series_admittance_rectangle : ℕ → SeriesEnds → Ends → Option Rectangle
+series_admittance_rectangle s p h = do
   re ← resistance_ends s p.plain p.r p.k p.m h
   im ← reactance_ends s p.x p.xc h
-  div_boxes s (one_box s) (record { re = re; im = im })
+  div_rectangles s (one_rectangle s) (record { re = re; im = im })
 
 -- 0 + j(h b)
-abbrev pub shunt_admittance_box : ℕ → Ends → Ends → Option Box
-shunt_admittance_box s b h = do
+abbrev pub shunt_admittance_rectangle : ℕ → Ends → Ends → Option Rectangle
+shunt_admittance_rectangle s b h = do
   im ← mul_ends s h b
   Some (record { re = zero_ends; im = im })

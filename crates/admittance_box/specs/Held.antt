@@ -3,7 +3,7 @@ use Rattle.std.specs.Prelude.{ℕ, Bool, Option, IfSome, IsTrue, pos}
 use Rattle.exact_algebra.specs.Ratio.{Ratio, ◌≈◌, whole}
 use Rattle.exact_algebra.specs.Complex.{Complex}
 use Rattle.complex_interval.specs.Ends.{Ends, Encloses}
-use Rattle.complex_interval.specs.Boxes.{Box, EnclosesComplex}
+use Rattle.complex_interval.specs.Rectangles.{Rectangle, EnclosesComplex}
 use Rattle.network_theory.specs.Order.{Order, IsOrder, fraction}
 use Rattle.network_theory.specs.Impedance.{resistance, shunt_admittance}
 use Rattle.network_theory.specs.Branch.{Series}
@@ -26,12 +26,12 @@ HoldsResistance s plain r k m order result =
     → IfSome result (λ a. Encloses s a (resistance vr vk vm h))
 
 -- where there is a result, a series branch of values that are held has an admittance at each order that is held: its impedance is not zero, and the result holds its inverse
-abbrev pub HoldsSeriesAdmittance : ℕ → SeriesEnds → Ends → Option Box → Type 0
+abbrev pub HoldsSeriesAdmittance : ℕ → SeriesEnds → Ends → Option Rectangle → Type 0
 HoldsSeriesAdmittance s p order result =
     (h : Order) → IsOrder h → Encloses s order (fraction h) → (r k m x xc : Ratio) → HoldsSeries s p r k m x xc
     → IfSome result (λ a. (y : Complex) × IsAdmittance h (Series r k m x xc) y × EnclosesComplex s a y)
 
 -- the result, if there is one, holds the admittance of each susceptance that is held at each order that is held
-abbrev pub HoldsShuntAdmittance : ℕ → Ends → Ends → Option Box → Type 0
+abbrev pub HoldsShuntAdmittance : ℕ → Ends → Ends → Option Rectangle → Type 0
 HoldsShuntAdmittance s b order result =
     (h : Order) → IsOrder h → Encloses s order (fraction h) → (x : Ratio) → Encloses s b x → IfSome result (λ a. EnclosesComplex s a (shunt_admittance x h))

@@ -2,7 +2,7 @@
 use Rattle.std.specs.Prelude.{◌≡◌, ℕ, List, Ok}
 use Rattle.std.specs.List.{AllByRecursion}
 use Rattle.exact_algebra.specs.Complex.{Complex}
-use Rattle.complex_interval.specs.Boxes.{Box as ComplexBox, EnclosesComplex}
+use Rattle.complex_interval.specs.Rectangles.{Rectangle, EnclosesComplex}
 use Rattle.network_theory.specs.Order.{Order, IsOrder}
 use Rattle.network_theory.specs.Box.{LiesIn}
 use Rattle.network_theory.specs.Network.{Network, IsUncoupled}
@@ -12,7 +12,7 @@ use Rattle.network_theory.specs.Admittance.{Part}
 use Rattle.network_theory.specs.Nodal.{IsNodalSystem, IsLast}
 use Rattle.network_theory.specs.Reduced.{IsReducedTo}
 use Rattle.plain_elimination.specs.Elimination.{HoldsRows}
-use Rattle.plain_elimination.specs.Rectangles.{reduce_boxes}
+use Rattle.plain_elimination.specs.Rectangles.{reduce_rectangles}
 use Rattle.admittance_box.specs.BoxMatrix.{box_matrix}
 use Rattle.admittance_box.specs.Places.{IsNodeOrdering}
 
@@ -27,28 +27,28 @@ pub record CanAssemble (low high : Network) (driven : ℕ) (ordering : List ℕ)
   pub driven_is_live : Live low driven
   pub ordered : IsNodeOrdering low driven ordering
 
--- each branch with a live node has an admittance at order h, and the boxes hold the sums of them, the entries of the nodal matrix with the driven node last
-pub record HoldsNodal (s : ℕ) (network : Network) (h : Order) (driven : ℕ) (ordering : List ℕ) (boxes : List (List ComplexBox)) : Type 0 where
+-- each branch with a live node has an admittance at order h, and the rectangles hold the sums of them, the entries of the nodal matrix with the driven node last
+pub record HoldsNodal (s : ℕ) (network : Network) (h : Order) (driven : ℕ) (ordering : List ℕ) (matrix : List (List Rectangle)) : Type 0 where
   pub parts : List Part
   pub rows : List (List Complex)
   pub n : ℕ
   pub system : IsNodalSystem network h parts ordering rows
   pub last : IsLast ordering n driven
-  pub held : HoldsRows (EnclosesComplex s) boxes rows
+  pub held : HoldsRows (EnclosesComplex s) matrix rows
 
 -- so at every order of the box, for every network between the two
-abbrev pub HoldsEach : ℕ → Network → Network → ℕ → List ℕ → ℕ → ℕ → List (List ComplexBox) → Type 0
-HoldsEach s low high driven ordering lo hi boxes =
-    (h : Order) → IsOrder h → LiesIn h (record { lo = lo; hi = hi }) → (network : Network) → LiesBetween network low high → HoldsNodal s network h driven ordering boxes
+abbrev pub HoldsEach : ℕ → Network → Network → ℕ → List ℕ → ℕ → ℕ → List (List Rectangle) → Type 0
+HoldsEach s low high driven ordering lo hi matrix =
+    (h : Order) → IsOrder h → LiesIn h (record { lo = lo; hi = hi }) → (network : Network) → LiesBetween network low high → HoldsNodal s network h driven ordering matrix
 
 -- the matrix of a box, where it has a value, holds the exact one at every order of the box, for every network between the two
 abbrev pub BoxMatrixHolds : ℕ → Type 0
 BoxMatrixHolds s =
     (low high : Network) (driven : ℕ) (ordering : List ℕ) → CanAssemble low high driven ordering
-    → (lo hi : ℕ) (boxes : List (List ComplexBox)) → box_matrix s low high ordering lo hi ≡ Ok boxes → HoldsEach s low high driven ordering lo hi boxes
+    → (lo hi : ℕ) (matrix : List (List Rectangle)) → box_matrix s low high ordering lo hi ≡ Ok matrix → HoldsEach s low high driven ordering lo hi matrix
 
 -- the reduced value y of the nodal matrix with the driven node last, which the box holds
-pub record HoldsReduced (s : ℕ) (network : Network) (h : Order) (driven : ℕ) (value : ComplexBox) : Type 0 where
+pub record HoldsReduced (s : ℕ) (network : Network) (h : Order) (driven : ℕ) (value : Rectangle) : Type 0 where
   pub y : Complex
   pub reduced : IsReducedTo network h driven y
   pub held : EnclosesComplex s value y
@@ -57,5 +57,5 @@ pub record HoldsReduced (s : ℕ) (network : Network) (h : Order) (driven : ℕ)
 abbrev pub ReducedMatrixHolds : ℕ → Type 0
 ReducedMatrixHolds s =
     (low high : Network) (driven : ℕ) (ordering : List ℕ) → CanAssemble low high driven ordering
-    → (lo hi : ℕ) (boxes : List (List ComplexBox)) (value : ComplexBox) → box_matrix s low high ordering lo hi ≡ Ok boxes → reduce_boxes s boxes ≡ Ok value
+    → (lo hi : ℕ) (matrix : List (List Rectangle)) (value : Rectangle) → box_matrix s low high ordering lo hi ≡ Ok matrix → reduce_rectangles s matrix ≡ Ok value
     → (h : Order) → IsOrder h → LiesIn h (record { lo = lo; hi = hi }) → (network : Network) → LiesBetween network low high → HoldsReduced s network h driven value

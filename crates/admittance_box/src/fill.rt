@@ -1,7 +1,7 @@
 // The rows of a matrix, branch by branch.
 ghost use Rattle.std.specs.Prelude.{◌≡◌, ◌<◌, ◌≤◌, All, length, map};
 ghost use Rattle.std.specs.Option.{option_map};
-ghost use Rattle.complex_interval.specs.Rect.{box_of};
+ghost use Rattle.complex_interval.specs.Rect.{rectangle_of};
 ghost use Rattle.net_branch.specs.declared.limits.TheConstants.{MAX_BRANCHES};
 ghost use Rattle.admittance_box.specs.BoxMatrix.{grown, with_pairs, with_addend, with_addends};
 ghost use Rattle.admittance_box.specs.Filled.{FillsAs, IsWithin};
@@ -24,7 +24,7 @@ pub enum Fill {
 fn add_pair<E: Enclosure>(y: Rect<E>, pair: TapProduct<E>, matrix: &mut Matrix<E>) -> Option<()>
     requires row_in { pair.row < matrix.old.size }
     requires column_in { pair.column < matrix.old.size }
-    ensures rows { option_map (λ _. matrix.new.rows) result ≡ grown E.SCALE (box_of E.ends y) (pair_ends E.ends pair) matrix.old.rows }
+    ensures rows { option_map (λ _. matrix.new.rows) result ≡ grown E.SCALE (rectangle_of E.ends y) (pair_ends E.ends pair) matrix.old.rows }
     ensures size { matrix.new.size ≡ matrix.old.size }
 {
     let more = y.scale(pair.factor)?;
@@ -40,7 +40,7 @@ fn add_pairs<E: Enclosure>(
     matrix: &mut Matrix<E>,
 ) -> Option<()>
     requires { All (λ p. (p.row < matrix.old.size) × (p.column < matrix.old.size)) pairs.now }
-    ensures rows { option_map (λ _. matrix.new.rows) result ≡ with_pairs E.SCALE (box_of E.ends y) (map (pair_ends E.ends) pairs.now) matrix.old.rows }
+    ensures rows { option_map (λ _. matrix.new.rows) result ≡ with_pairs E.SCALE (rectangle_of E.ends y) (map (pair_ends E.ends) pairs.now) matrix.old.rows }
     ensures size { matrix.new.size ≡ matrix.old.size }
 {
     for pair in pairs {

@@ -1,11 +1,11 @@
 // What a branch adds to a matrix, by the intervals of its numbers.
 ghost use Rattle.std.specs.Prelude.{◌≡◌};
 ghost use Rattle.std.specs.Option.{option_map};
-ghost use Rattle.complex_interval.specs.Rect.{box_of};
+ghost use Rattle.complex_interval.specs.Rect.{rectangle_of};
 ghost use Rattle.net_branch.specs.Exact.{exact_law};
 ghost use Rattle.network_theory.specs.Between.{LawUpTo};
 ghost use Rattle.admittance_box.specs.Addends.{law_between};
-ghost use Rattle.admittance_box.specs.BoxMatrix.{law_box};
+ghost use Rattle.admittance_box.specs.BoxMatrix.{law_rectangle};
 ghost use Rattle.admittance_box.specs.Intervals.{law_ends};
 
 use crate::series::{SeriesParameters, SeriesValues, series_admittance};
@@ -80,7 +80,7 @@ impl<E: Enclosure> LawIntervals<E> {
 
     /// The admittance over the orders of `order`, in per unit. None where a step has no value.
     pub fn admittance(&self, order: E) -> Option<Rect<E>>
-        ensures { option_map (box_of E.ends) result ≡ law_box E.SCALE (E.ends order) (law_ends E.ends self.now) }
+        ensures { option_map (rectangle_of E.ends) result ≡ law_rectangle E.SCALE (E.ends order) (law_ends E.ends self.now) }
     {
         match self {
             LawIntervals::Series(parameters) => series_admittance(parameters, order),

@@ -1,8 +1,8 @@
 // Series branches. Each operation is one step of the stated order, since another order would round otherwise.
 ghost use Rattle.std.specs.Prelude.{◌≡◌, ◌&&◌};
 ghost use Rattle.std.specs.Option.{option_map};
-ghost use Rattle.complex_interval.specs.Rect.{box_of};
-ghost use Rattle.admittance_box.specs.Admittance.{reactance_ends, series_admittance_box};
+ghost use Rattle.complex_interval.specs.Rect.{rectangle_of};
+ghost use Rattle.admittance_box.specs.Admittance.{reactance_ends, series_admittance_rectangle};
 ghost use Rattle.admittance_box.specs.Held.{HoldsSeriesAdmittance};
 ghost use Rattle.admittance_box.specs.Series.{series_ends, ends_between, is_nought, AreOrdered, HoldsBetween};
 
@@ -69,10 +69,10 @@ fn are_zero(low: Fraction, high: Fraction) -> bool
 /// The admittance 1/(R + jX) of a series branch over the orders of `order`, in per unit. None
 /// where a step has no value, as where the impedance may be zero.
 pub fn series_admittance<E: Enclosure>(p: &SeriesParameters<E>, order: E) -> Option<Rect<E>>
-    ensures value { option_map (box_of E.ends) result
-        ≡ series_admittance_box E.SCALE (series_ends E.ends p.now) (E.ends order) }
+    ensures value { option_map (rectangle_of E.ends) result
+        ≡ series_admittance_rectangle E.SCALE (series_ends E.ends p.now) (E.ends order) }
     ensures holds { HoldsSeriesAdmittance E.SCALE (series_ends E.ends p.now) (E.ends order)
-        (option_map (box_of E.ends) result) }
+        (option_map (rectangle_of E.ends) result) }
 {
     let re = resistance(p.r, p.k, p.m, p.plain, order)?;
     let im = reactance(p.x, p.xc, order)?;

@@ -10,7 +10,7 @@ use Rattle.exact_algebra.proofs.Order.{NotNegative, ratio_order}
 use Rattle.exact_algebra.proofs.Quotients.{apart_above, not_negative_in, square_not_negative}
 use Rattle.exact_algebra.proofs.WholeOrder.{pos-mul, square_above, mul-le_pos, ≤ℤ_trans}
 use Rattle.exact_fraction.specs.Root.{root_ceil_of}
-use Rattle.complex_interval.specs.Boxes.{IsAtMostSquare, IsAtLeastSquare}
+use Rattle.complex_interval.specs.Rectangles.{IsAtMostSquare, IsAtLeastSquare}
 use Rattle.complex_interval.proofs.Sizes.{four}
 use Rattle.network_theory.specs.Order.{Order}
 use Rattle.network_theory.specs.Threshold.{flat, per_unit}

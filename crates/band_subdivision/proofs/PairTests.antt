@@ -11,7 +11,7 @@ use Rattle.exact_algebra.proofs.Ratios.{ratio_ring, num_nought}
 use Rattle.exact_algebra.proofs.Reader.{reads, linear, weigh, join, none_left}
 use Rattle.exact_algebra.proofs.Reals.{re-plus_j, im-plus_j}
 use Rattle.complex_interval.specs.Ends.{range_ends}
-use Rattle.complex_interval.specs.Boxes.{Box, EnclosesComplex}
+use Rattle.complex_interval.specs.Rectangles.{Rectangle, EnclosesComplex}
 use Rattle.complex_interval.proofs.Held.{add_encloses, mul_encloses}
 use Rattle.complex_interval.proofs.Ranges.{fraction_encloses}
 use Rattle.network_theory.specs.Order.{Order, IsOrder, fraction}
@@ -63,15 +63,15 @@ module _ (e : Ratio) (h : Order) (z : Complex) where
       (search reads depth 40 fits 4000) none_left
 
 -- with H·e added to the imaginary part, a box that held a number holds the sum with jhe
-extra_held : (s lo hi : ℕ) (e : Ratio) (y held : Box) (z : Complex) (h : Order) → IsOrder h → LiesIn h (orders lo hi) → with_extra s (range_ends s e e) lo hi y ≡ Some held
+extra_held : (s lo hi : ℕ) (e : Ratio) (y held : Rectangle) (z : Complex) (h : Order) → IsOrder h → LiesIn h (orders lo hi) → with_extra s (range_ends s e e) lo hi y ≡ Some held
     → EnclosesComplex s y z → EnclosesComplex s held (complex_plus z (shunt_admittance e h))
 extra_held s lo hi e y held z h is_order inside made holds =
     let (b, is_b, rest) = bind-some _ _ held made in
     let (more, is_more, sum) = bind-some _ _ held rest in
-    let (im, is_im, whole_box) = bind-some _ _ held sum in
+    let (im, is_im, whole_rectangle) = bind-some _ _ held sum in
     let same : record { re = y.re; im = im } ≡ held = cc in
     let part = mul_encloses s (order_ends s lo hi) b (fraction h) e (order_encloses s lo hi h is_order inside) (fraction_encloses s e b is_b) more is_more in
-    let P : Box → Type 0 = λ t. EnclosesComplex s t (complex_plus z (shunt_admittance e h)) in
+    let P : Rectangle → Type 0 = λ t. EnclosesComplex s t (complex_plus z (shunt_admittance e h)) in
     subst P same (record {
       re = holds_along _ _ s _ _ (real_stays e h z) holds.re;
       im = holds_along _ _ s _ _ (imaginary_grows e h z) (add_encloses s y.im more _ _ holds.im part im is_im);
@@ -85,7 +85,7 @@ ok_some (Err e) x h = absurd (cc)
 not_above : (z : ℤ) → pos 0 ≤ℤ z → int_lt (pos 0) z ≡ false → z ≡ pos 0
 not_above z h none = grind (arith, ints)
 
-scanned_held : (s : ℕ) (network : Network) (driven : ℕ) (e : Ratio) (h : Order) (y : Complex) (held : Box) → pos 0 ≤ℤ e.num → IsReducedTo network h driven y
+scanned_held : (s : ℕ) (network : Network) (driven : ℕ) (e : Ratio) (h : Order) (y : Complex) (held : Rectangle) → pos 0 ≤ℤ e.num → IsReducedTo network h driven y
     → EnclosesComplex s held (complex_plus y (shunt_admittance e h)) → HoldsReduced s (scanned_network network driven e) h driven held
 scanned_held s network driven e h y held natural reduced holds = by (int_lt (pos 0) e.num) refl
   where

@@ -2,7 +2,7 @@
 use Rattle.std.proofs.lemmas.Int.{ints}
 use Rattle.std.proofs.Common.{◌≡◌, Bool, ◌∙◌, ℕ, ◌≤◌, ◌<◌, ◌-◌, ◌+◌, ◌*◌, List, [], ◌∷◌, ℤ, pos, ◌≤ℤ◌, true, length, map, Option, Some, None, refl, sym, arith, append-nil}
 use Rattle.std.specs.Prelude.{IfSome}
-use Rattle.complex_interval.specs.Boxes.{Box}
+use Rattle.complex_interval.specs.Rectangles.{Rectangle}
 use Rattle.complex_interval.specs.Ends.{Ends}
 use Rattle.network_theory.specs.Box.{Covers}
 use Rattle.network_theory.specs.Network.{Network}
@@ -26,10 +26,10 @@ use Rattle.band_subdivision.proofs.Truths.{kind_true}
 use Rattle.scan_report.specs.declared.boxes.Kind.{Kind}
 
 -- ---- a value with the extra susceptance's part, or none
-pub value_some : (s lo hi : ℕ) (o : Option Box) (y : Box) (b b' : Option Ends) (r : Option Box) → Some y ≡ o → b ≡ b' → r ≡ with_extra s b lo hi y → r ≡ (o >>= with_extra s b' lo hi)
+pub value_some : (s lo hi : ℕ) (o : Option Rectangle) (y : Rectangle) (b b' : Option Ends) (r : Option Rectangle) → Some y ≡ o → b ≡ b' → r ≡ with_extra s b lo hi y → r ≡ (o >>= with_extra s b' lo hi)
 value_some s lo hi o y b b' r is same made = rw (← is, ← same) made
 
-pub value_none : (s lo hi : ℕ) (o : Option Box) (b : Option Ends) → None ≡ o → None ≡ (o >>= with_extra s b lo hi)
+pub value_none : (s lo hi : ℕ) (o : Option Rectangle) (b : Option Ends) → None ≡ o → None ≡ (o >>= with_extra s b lo hi)
 value_none s lo hi o b is = rw (← is) refl
 
 -- ---- beginnings

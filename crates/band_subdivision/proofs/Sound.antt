@@ -15,7 +15,7 @@ use Rattle.exact_algebra.proofs.Squares.{square_size-along, square_size-nought, 
 use Rattle.exact_fraction.specs.Scaled.{floor_scaled_of, ceil_scaled_of}
 use Rattle.exact_fraction.specs.Root.{root_ceil_of}
 use Rattle.exact_fraction.proofs.Roots.{root_ceil_is, root_ceil_positive}
-use Rattle.complex_interval.specs.Boxes.{Box, low_square_sum, high_square_sum}
+use Rattle.complex_interval.specs.Rectangles.{Rectangle, low_square_sum, high_square_sum}
 use Rattle.complex_interval.proofs.Ranges.{floor_at_most, ceil_at_least, end_is, same_value}
 use Rattle.complex_interval.proofs.Sizes.{low_square_bound, high_square_bound}
 use Rattle.network_theory.specs.Order.{Order, IsOrder}
@@ -38,9 +38,9 @@ use Rattle.band_subdivision.proofs.TestSteps.{high_positive}
 open complex_numbers use {nought, inverse}
 
 -- ---- what a passed test says of its bound and its box
-record IsClearBy (bound : Option ℤ) (reduced : Option Box) : Type 0 where
+record IsClearBy (bound : Option ℤ) (reduced : Option Rectangle) : Type 0 where
   pub number : ℤ
-  pub held : Box
+  pub held : Rectangle
   pub is_bound : bound ≡ Some number
   pub is_held : reduced ≡ Some held
   pub least : unsigned_abs number * unsigned_abs number ≤ low_square_sum held
@@ -51,14 +51,14 @@ le_true m n h = grind (arith, nat_tests)
 lt_true : (m n : ℕ) → nat_lt m n ≡ true → m < n
 lt_true m n h = grind (arith, nat_tests)
 
-clear_parts : (bound : Option ℤ) (reduced : Option Box) → is_clear_by bound reduced ≡ true → IsClearBy bound reduced
+clear_parts : (bound : Option ℤ) (reduced : Option Rectangle) → is_clear_by bound reduced ≡ true → IsClearBy bound reduced
 clear_parts (Some b) (Some y) h = record { number = b; held = y; is_bound = refl; is_held = refl; least = le_true _ _ h }
 clear_parts (Some b) None h = absurd (cc)
 clear_parts None y h = absurd (cc)
 
-pub record IsAboveBy (scale : ℕ) (levels : ScanLevels) (bound : Option ℤ) (reduced : Option Box) (ohms : ℤ) : Type 0 where
+pub record IsAboveBy (scale : ℕ) (levels : ScanLevels) (bound : Option ℤ) (reduced : Option Rectangle) (ohms : ℤ) : Type 0 where
   pub number : ℤ
-  pub held : Box
+  pub held : Rectangle
   pub is_bound : bound ≡ Some number
   pub is_held : reduced ≡ Some held
   pub most : high_square_sum held < unsigned_abs number * unsigned_abs number
@@ -70,7 +70,7 @@ both_true true true v ohms h = (refl, refl, cc)
 both_true true false v ohms h = absurd (cc)
 both_true false t v ohms h = absurd (cc)
 
-pub above_parts : (scale : ℕ) (levels : ScanLevels) (bound : Option ℤ) (reduced : Option Box) (ohms : ℤ) → ohms_above_by scale levels bound reduced ≡ Some ohms → IsAboveBy scale levels bound reduced ohms
+pub above_parts : (scale : ℕ) (levels : ScanLevels) (bound : Option ℤ) (reduced : Option Rectangle) (ohms : ℤ) → ohms_above_by scale levels bound reduced ≡ Some ohms → IsAboveBy scale levels bound reduced ohms
 above_parts scale levels (Some b) (Some y) ohms h =
     let parts = both_true (nat_lt (high_square_sum y) (unsigned_abs b * unsigned_abs b)) (nat_lt 0 (low_square_sum y)) _ ohms h in
     record { number = b; held = y; is_bound = refl; is_held = refl; most = lt_true _ _ parts.0; some = lt_true _ _ parts.1; is_ohms = parts.2 }
@@ -133,7 +133,7 @@ threshold_at levels h = per_unit (flat (millionths levels.threshold)) (millionth
 inverse_scaled : (scale : ℕ) (levels : ScanLevels) → NotNegative (times (inverse_threshold levels) (units scale))
 inverse_scaled scale levels = ratio_order.product (inverse_natural levels) (natural (2 ^ scale))
 
-cleared_at : (scale : ℕ) (levels : ScanLevels) (network : Network) (h : Order) (node : ℕ) (number : ℤ) (held : Box) → AreScanLevels levels → HoldsReduced scale network h node held
+cleared_at : (scale : ℕ) (levels : ScanLevels) (network : Network) (h : Order) (node : ℕ) (number : ℤ) (held : Rectangle) → AreScanLevels levels → HoldsReduced scale network h node held
     → clear_bound scale levels ≡ Some number → unsigned_abs number * unsigned_abs number ≤ low_square_sum held → IsClearedAt network h node (threshold_at levels h)
 cleared_at scale levels network h node number held in_range exact bound least =
     let n = unsigned_abs number in
@@ -150,7 +150,7 @@ micro_is_order at h = record { n = omega (arith, h.above); d = omega arith }
 micro_inside : (at : ℕ) → LiesIn (micro at) (orders at at)
 micro_inside at = record { low = omega arith; high = omega arith }
 
-module _ (scale : ℕ) (levels : ScanLevels) (network : Network) (node at : ℕ) (number : ℤ) (held : Box) (in_range : AreScanLevels levels)
+module _ (scale : ℕ) (levels : ScanLevels) (network : Network) (node at : ℕ) (number : ℤ) (held : Rectangle) (in_range : AreScanLevels levels)
     (exact : HoldsReduced scale network (micro at) node held) (bound : above_bound scale levels ≡ Some number)
     (most : high_square_sum held < unsigned_abs number * unsigned_abs number) (some : 0 < low_square_sum held) where
   reduced_apart : ¬ (complex_numbers.◌≈◌ exact.y nought)

@@ -6,7 +6,7 @@ use Rattle.std.proofs.Math.Nat.{div-le_self}
 use Rattle.std.proofs.lemmas.Int.{ints, unsigned_abs-mul, to_z-of_z}
 use Rattle.std.proofs.lemmas.Nat.{mul-le}
 use Rattle.complex_interval.specs.Ends.{Ends, zero_between, mig_of, mag_of}
-use Rattle.complex_interval.specs.Boxes.{Box, low_square_sum, high_square_sum}
+use Rattle.complex_interval.specs.Rectangles.{Rectangle, low_square_sum, high_square_sum}
 use Rattle.exact_fraction.specs.Fraction.{ratio_of}
 use Rattle.exact_fraction.specs.declared.fraction.Fraction.{Fraction}
 use Rattle.exact_fraction.proofs.Roots.{root_ceil_only}
@@ -60,11 +60,11 @@ mig_at_most a = by (zero_between a)
     by true = omega arith
     by false = omega arith
 
-pub low_at_most_high : (y : Box) → low_square_sum y ≤ high_square_sum y
+pub low_at_most_high : (y : Rectangle) → low_square_sum y ≤ high_square_sum y
 low_at_most_high y =
     omega (arith, mul-le _ _ _ _ (mig_at_most y.re) (mig_at_most y.re), mul-le _ _ _ _ (mig_at_most y.im) (mig_at_most y.im))
 
-pub high_positive : (y : Box) (low high : ℕ) → low ≡ low_square_sum y → high ≡ high_square_sum y → 0 < low → 0 < high
+pub high_positive : (y : Rectangle) (low high : ℕ) → low ≡ low_square_sum y → high ≡ high_square_sum y → 0 < low → 0 < high
 high_positive y low high el eh some = let h = low_at_most_high y in omega (arith, h, el, eh)
 
 -- the voltage is at most 2^31 millionths of a kV in size

@@ -3,7 +3,7 @@ use Rattle.std.proofs.Common.{◌≡◌, ℕ, ◌*◌, ◌-◌, ◌^◌, ◌≤�
 use Rattle.std.specs.Prelude.{if◌then◌else◌}
 use Rattle.exact_fraction.proofs.Steps.{pow_at_most}
 use Rattle.exact_fraction.specs.Root.{root_ceil_of}
-use Rattle.complex_interval.specs.Boxes.{Box, high_square_sum}
+use Rattle.complex_interval.specs.Rectangles.{Rectangle, high_square_sum}
 use Rattle.band_subdivision.specs.Boxes.{BoxTest, above_at, Widths, middle, peak_or, peak_of, kind_of, boxes_of}
 use Rattle.band_subdivision.specs.Split.{ComesFrom, itself, lower, upper}
 use Rattle.band_subdivision.specs.IntervalTest.{AreScanLevels, micro_ohms_of, above_bound, interval_test}
@@ -58,7 +58,7 @@ ohms_small scale levels high small h =
     let fits = ohms_fit (unsigned_abs levels.kv) (2 ^ scale) (unsigned_abs levels.mva * root_ceil_of high) (kv_fits levels h) (pow_at_most scale 48 small) in
     omega arith
 
-test_names : (scale : ℕ) (levels : ScanLevels) (reduced : ℕ → ℕ → Option Box) → scale ≤ 48 → AreScanLevels levels → NamesOhms (interval_test scale levels reduced)
+test_names : (scale : ℕ) (levels : ScanLevels) (reduced : ℕ → ℕ → Option Rectangle) → scale ≤ 48 → AreScanLevels levels → NamesOhms (interval_test scale levels reduced)
 unfolding interval_test
 test_names scale levels reduced small h = record {
   at_each = λ at ohms passed.

@@ -1,7 +1,7 @@
 -- Which boxes a report can write.
 use Rattle.std.specs.Prelude.{ℕ, ◌≤◌, ◌<◌, ℤ, Option, Some, None}
 use Rattle.std.specs.List.{AllByRecursion}
-use Rattle.complex_interval.specs.Boxes.{Box}
+use Rattle.complex_interval.specs.Rectangles.{Rectangle}
 use Rattle.band_subdivision.specs.Boxes.{Widths, boxes_of}
 use Rattle.band_subdivision.specs.IntervalTest.{AreScanLevels, interval_test}
 use Rattle.band_subdivision.specs.declared.interval_test.ScanLevels.{ScanLevels}
@@ -22,4 +22,4 @@ HasText row = IsOhms (ohms_of_kind row.kind)
 
 -- a report can write each box of an interval test
 abbrev pub BoxesHaveText : Type 0
-BoxesHaveText = (scale : ℕ) (levels : ScanLevels) (reduced : ℕ → ℕ → Option Box) (widths : Widths) (lo hi : ℕ) → scale ≤ 48 → AreScanLevels levels → 1 ≤ widths.finest → lo < hi → AllByRecursion HasText (boxes_of (interval_test scale levels reduced) widths lo hi)
+BoxesHaveText = (scale : ℕ) (levels : ScanLevels) (reduced : ℕ → ℕ → Option Rectangle) (widths : Widths) (lo hi : ℕ) → scale ≤ 48 → AreScanLevels levels → 1 ≤ widths.finest → lo < hi → AllByRecursion HasText (boxes_of (interval_test scale levels reduced) widths lo hi)

@@ -3,7 +3,7 @@ use Rattle.std.specs.Prelude.{ℕ, ◌*◌, ◌/◌, ◌^◌, ℤ, pos, ◌*ℤ�
 use Rattle.exact_algebra.specs.Ratio.{Ratio, over}
 use Rattle.exact_fraction.specs.Scaled.{end_of, floor_scaled_of, ceil_scaled_of}
 use Rattle.exact_fraction.specs.Root.{root_ceil_of}
-use Rattle.complex_interval.specs.Boxes.{Box, low_square_sum, high_square_sum}
+use Rattle.complex_interval.specs.Rectangles.{Rectangle, low_square_sum, high_square_sum}
 use Rattle.study_model.specs.Range.{IsIn}
 use Rattle.study_model.specs.declared.range.TheConstants.Range.{ABOVE_ZERO, BUS_KV, BASE_MVA}
 use Rattle.band_subdivision.specs.Boxes.{BoxTest}
@@ -31,24 +31,24 @@ above_bound scale levels = end_of (floor_scaled_of (inverse_threshold levels) sc
 unfoldable pub micro_ohms_of : ℕ → ScanLevels → ℕ → ℕ
 micro_ohms_of scale levels high = unsigned_abs levels.kv * unsigned_abs levels.kv * 2 ^ scale / (unsigned_abs levels.mva * root_ceil_of high)
 
--- each number of the box is at least the bound in size
-abbrev pub is_clear_by : Option ℤ → Option Box → Bool
+-- each number of the rectangle is at least the bound in size
+abbrev pub is_clear_by : Option ℤ → Option Rectangle → Bool
 is_clear_by (Some bound) (Some y) = nat_le (unsigned_abs bound * unsigned_abs bound) (low_square_sum y)
 is_clear_by (Some bound) None = false
 is_clear_by None y = false
 
--- each number of the box is less than the bound in size, and none is zero
-abbrev pub is_above_by : ℤ → Box → Bool
+-- each number of the rectangle is less than the bound in size, and none is zero
+abbrev pub is_above_by : ℤ → Rectangle → Bool
 is_above_by bound y = nat_lt (high_square_sum y) (unsigned_abs bound * unsigned_abs bound) && nat_lt 0 (low_square_sum y)
 
--- the micro-ohms of such a box
-abbrev pub ohms_above_by : ℕ → ScanLevels → Option ℤ → Option Box → Option ℤ
+-- the micro-ohms of such a rectangle
+abbrev pub ohms_above_by : ℕ → ScanLevels → Option ℤ → Option Rectangle → Option ℤ
 ohms_above_by scale levels (Some bound) (Some y) = if is_above_by bound y then Some (pos (micro_ohms_of scale levels (high_square_sum y))) else None
 ohms_above_by scale levels (Some bound) None = None
 ohms_above_by scale levels None y = None
 
 -- the test of boxes by their reduced admittances: the impedance is within where each admittance is at least 1/T, and above where each is less and other than zero
-unfoldable pub interval_test : ℕ → ScanLevels → (ℕ → ℕ → Option Box) → BoxTest
+unfoldable pub interval_test : ℕ → ScanLevels → (ℕ → ℕ → Option Rectangle) → BoxTest
 interval_test scale levels reduced = record {
   clear = λ lo hi. is_clear_by (clear_bound scale levels) (reduced lo hi);
   above = λ lo hi. ohms_above_by scale levels (above_bound scale levels) (reduced lo hi);

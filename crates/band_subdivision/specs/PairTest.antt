@@ -3,10 +3,10 @@ use Rattle.std.specs.Prelude.{ℕ, List, pos, Option, Some, int_lt, if◌then◌
 use Rattle.std.specs.Result.{result_ok}
 use Rattle.exact_algebra.specs.Ratio.{Ratio}
 use Rattle.complex_interval.specs.Ends.{Ends, range_ends, add_ends, mul_ends}
-use Rattle.complex_interval.specs.Boxes.{Box}
+use Rattle.complex_interval.specs.Rectangles.{Rectangle}
 use Rattle.network_theory.specs.Network.{Network}
 use Rattle.network_theory.specs.Extra.{with_shunt}
-use Rattle.plain_elimination.specs.Rectangles.{reduce_boxes}
+use Rattle.plain_elimination.specs.Rectangles.{reduce_rectangles}
 use Rattle.admittance_box.specs.BoxMatrix.{box_matrix}
 use Rattle.admittance_box.specs.Orders.{order_ends}
 use Rattle.admittance_box.specs.Steps.{◌>>=◌}
@@ -15,7 +15,7 @@ use Rattle.band_subdivision.specs.IntervalTest.{interval_test}
 use Rattle.band_subdivision.specs.declared.interval_test.ScanLevels.{ScanLevels}
 
 -- y with H·b added to its imaginary part, for the interval H of the orders from lo to hi and that of a susceptance, b
-abbrev pub with_extra : ℕ → Option Ends → ℕ → ℕ → Box → Option Box
+abbrev pub with_extra : ℕ → Option Ends → ℕ → ℕ → Rectangle → Option Rectangle
 with_extra s susceptance lo hi y = do
   b ← susceptance
   more ← mul_ends s (order_ends s lo hi) b
@@ -23,11 +23,11 @@ with_extra s susceptance lo hi y = do
   Some (record { re = y.re; im = im })
 
 -- the reduced value of the pair's matrix over the orders from lo to hi, with the driven node last in the node ordering
-abbrev pub reduced_value : ℕ → Network → Network → List ℕ → ℕ → ℕ → Option Box
-reduced_value s low high ordering lo hi = result_ok (box_matrix s low high ordering lo hi) >>= (λ rows. result_ok (reduce_boxes s rows))
+abbrev pub reduced_value : ℕ → Network → Network → List ℕ → ℕ → ℕ → Option Rectangle
+reduced_value s low high ordering lo hi = result_ok (box_matrix s low high ordering lo hi) >>= (λ rows. result_ok (reduce_rectangles s rows))
 
 -- this value with H·e added to its imaginary part
-unfoldable pub pair_value : ℕ → Network → Network → List ℕ → Ratio → ℕ → ℕ → Option Box
+unfoldable pub pair_value : ℕ → Network → Network → List ℕ → Ratio → ℕ → ℕ → Option Rectangle
 pair_value s low high ordering e lo hi = reduced_value s low high ordering lo hi >>= with_extra s (range_ends s e e) lo hi
 
 -- the interval test by this value

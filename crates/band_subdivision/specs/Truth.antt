@@ -2,9 +2,9 @@
 use Rattle.std.specs.Prelude.{◌≡◌, ℕ, ◌-◌, ◌^◌, ◌≤◌, ◌<◌, ℤ, pos, negsuc, true, false, Option, Some}
 use Rattle.std.specs.List.{AllByRecursion}
 use Rattle.exact_algebra.specs.Ratio.{Ratio, over}
-use Rattle.complex_interval.specs.Boxes.{Box}
+use Rattle.complex_interval.specs.Rectangles.{Rectangle}
 use Rattle.network_theory.specs.Order.{Order, IsOrder}
-use Rattle.network_theory.specs.Box.{Box as OrderBox, LiesIn}
+use Rattle.network_theory.specs.Box.{Box, LiesIn}
 use Rattle.network_theory.specs.Network.{Network}
 use Rattle.network_theory.specs.Threshold.{Threshold, flat}
 use Rattle.network_theory.specs.Scanned.{IsCleared, IsPeak}
@@ -34,7 +34,7 @@ abbrev pub scanned_by : ScanLevels → Network → ℕ → Scanned
 scanned_by levels network node = record { network = network; node = node; threshold = flat (millionths levels.threshold); kv = millionths levels.kv; mva = millionths levels.mva }
 
 -- the orders from lo to hi
-abbrev pub orders : ℕ → ℕ → OrderBox
+abbrev pub orders : ℕ → ℕ → Box
 orders lo hi = record { lo = lo; hi = hi }
 
 -- the impedance exists and is within the threshold at every order from lo to hi
@@ -68,12 +68,12 @@ pub record IsSound (s : Scanned) (test : BoxTest) : Type 0 where
   pub above : (at : ℕ) (micro_ohms : ℤ) → IsTestable at at → above_at test at ≡ Some micro_ohms → IsTruePeak s at at at micro_ohms
 
 -- where there is a reduced admittance over a box of orders, it holds the exact one at every order in it
-pub record ReducesTo (scale : ℕ) (reduced : ℕ → ℕ → Option Box) (network : Network) (node : ℕ) : Type 0 where
-  pub at_each : (lo hi : ℕ) (held : Box) (h : Order) → IsTestable lo hi → reduced lo hi ≡ Some held → IsOrder h → LiesIn h (orders lo hi) → HoldsReduced scale network h node held
+pub record ReducesTo (scale : ℕ) (reduced : ℕ → ℕ → Option Rectangle) (network : Network) (node : ℕ) : Type 0 where
+  pub at_each : (lo hi : ℕ) (held : Rectangle) (h : Order) → IsTestable lo hi → reduced lo hi ≡ Some held → IsOrder h → LiesIn h (orders lo hi) → HoldsReduced scale network h node held
 
 -- the interval test is sound where the reduced admittances hold the exact ones
 abbrev pub IntervalTestIsSound : Type 0
-IntervalTestIsSound = (scale : ℕ) (levels : ScanLevels) (reduced : ℕ → ℕ → Option Box) (network : Network) (node : ℕ) → AreScanLevels levels → ReducesTo scale reduced network node → IsSound (scanned_by levels network node) (interval_test scale levels reduced)
+IntervalTestIsSound = (scale : ℕ) (levels : ScanLevels) (reduced : ℕ → ℕ → Option Rectangle) (network : Network) (node : ℕ) → AreScanLevels levels → ReducesTo scale reduced network node → IsSound (scanned_by levels network node) (interval_test scale levels reduced)
 
 -- by a sound test, what each box of a band says is true
 abbrev pub BoxesAreTrue : Type 0

@@ -1,7 +1,7 @@
 // What an admittance over a box of orders says of the impedance.
 ghost use Rattle.std.specs.Prelude.{◌≡◌, pos, ◌*◌, ◌^◌, ◌≤◌, ◌<◌, ◌≤ℤ◌, unsigned_abs};
 ghost use Rattle.std.specs.Option.{option_map};
-ghost use Rattle.complex_interval.specs.Rect.{box_of};
+ghost use Rattle.complex_interval.specs.Rect.{rectangle_of};
 ghost use Rattle.band_subdivision.specs.IntervalTest.{AreScanLevels, clear_bound, above_bound, inverse_threshold, micro_ohms_of, is_clear_by, ohms_above_by};
 ghost use Rattle.exact_fraction.specs.Fraction.{ratio_of};
 
@@ -49,9 +49,9 @@ fn inverse_of(levels: &ScanLevels) -> Fraction
     Fraction::new(top, below).unwrap()
 }
 
-/// Whether each number of the box is at least the bound in size.
+/// Whether each number of the rectangle is at least the bound in size.
 pub fn is_clear_of<E: Enclosure>(bound: Option<i64>, reduced: Option<Rect<E>>) -> bool
-    ensures { result ≡ is_clear_by bound (option_map (box_of E.ends) reduced) }
+    ensures { result ≡ is_clear_by bound (option_map (rectangle_of E.ends) reduced) }
 {
     match bound {
         Some(bound) => match reduced {
@@ -62,14 +62,14 @@ pub fn is_clear_of<E: Enclosure>(bound: Option<i64>, reduced: Option<Rect<E>>) -
     }
 }
 
-/// The micro-ohms of a box whose numbers are all less than the bound in size, and other than zero.
+/// The micro-ohms of a rectangle whose numbers are all less than the bound in size, and other than zero.
 pub fn ohms_of<E: Enclosure>(
     levels: &ScanLevels,
     bound: Option<i64>,
     reduced: Option<Rect<E>>,
 ) -> Option<i128>
     requires { AreScanLevels levels.now }
-    ensures { result ≡ ohms_above_by E.SCALE levels.now bound (option_map (box_of E.ends) reduced) }
+    ensures { result ≡ ohms_above_by E.SCALE levels.now bound (option_map (rectangle_of E.ends) reduced) }
 {
     match bound {
         Some(bound) => match reduced {

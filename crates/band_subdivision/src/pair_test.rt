@@ -2,7 +2,7 @@
 ghost use Rattle.std.specs.Prelude.{◌≡◌, pos, ◌≤◌, ◌≤ℤ◌, length, Some};
 ghost use Rattle.std.specs.Option.{option_map};
 ghost use Rattle.exact_fraction.specs.Fraction.{ratio_of};
-ghost use Rattle.complex_interval.specs.Rect.{box_of};
+ghost use Rattle.complex_interval.specs.Rect.{rectangle_of};
 ghost use Rattle.complex_interval.specs.Ends.{range_ends};
 ghost use Rattle.band_subdivision.specs.Boxes.{IsTestable};
 ghost use Rattle.band_subdivision.specs.IntervalTest.{AreScanLevels};
@@ -95,7 +95,7 @@ impl<E: Enclosure> PairTest<E> {
     /// The reduced admittance over a box of orders, that of the extra susceptance added.
     fn value(&mut self, lo: u32, hi: u32) -> Option<Rect<E>>
         requires { IsTestable lo hi }
-        ensures value { option_map (box_of E.ends) result ≡ pair_value E.SCALE self.old.low self.old.high self.old.ordering self.old.extra lo hi }
+        ensures value { option_map (rectangle_of E.ends) result ≡ pair_value E.SCALE self.old.low self.old.high self.old.ordering self.old.extra lo hi }
         ensures same { self.new ≡ self.old }
     {
         match reduced(&mut self.assembly, &mut self.matrix, lo, hi) {
@@ -130,7 +130,7 @@ fn reduced<E: Enclosure>(
     requires orders { IsTestable lo hi }
     requires size { matrix.old.size ≡ length assembly.old.ordering }
     requires some { 1 ≤ length assembly.old.ordering }
-    ensures value { option_map (box_of E.ends) result ≡ reduced_value E.SCALE assembly.old.low assembly.old.high assembly.old.ordering lo hi }
+    ensures value { option_map (rectangle_of E.ends) result ≡ reduced_value E.SCALE assembly.old.low assembly.old.high assembly.old.ordering lo hi }
     ensures assembly { assembly.new ≡ assembly.old }
     ensures size { matrix.new.size ≡ matrix.old.size }
 {
@@ -146,7 +146,7 @@ fn reduced<E: Enclosure>(
 /// An admittance over a box of orders with that of a further susceptance. None where the susceptance, or a step, has no value.
 fn add_extra<E: Enclosure>(y: Rect<E>, susceptance: Option<E>, lo: u32, hi: u32) -> Option<Rect<E>>
     requires { IsTestable lo hi }
-    ensures { option_map (box_of E.ends) result ≡ with_extra E.SCALE (option_map E.ends susceptance) lo hi (box_of E.ends y) }
+    ensures { option_map (rectangle_of E.ends) result ≡ with_extra E.SCALE (option_map E.ends susceptance) lo hi (rectangle_of E.ends y) }
 {
     let order: E = order_range(lo, hi);
     let im = y.im.add(order.mul(susceptance?)?)?;

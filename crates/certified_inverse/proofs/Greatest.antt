@@ -2,8 +2,8 @@
 use Rattle.std.proofs.Common.{◌≡◌, ℕ, zero, suc, ◌+◌, ◌<◌, List, [], ◌∷◌, length, get_or, drop, map, max, replicate, Option, Some, None, refl, sym, ap, ◌∙◌, arith}
 use Rattle.std.specs.Option.{option_map}
 use Rattle.std.proofs.lemmas.List.{drop_more, length-map, get_or-map, length-replicate}
-use Rattle.complex_interval.specs.Boxes.{Box, sub_boxes}
-use Rattle.certified_inverse.specs.Certificate.{and_then, each_two, combination, greatest, nought_box, one_box, unit_row, unit_boxes, row_left}
+use Rattle.complex_interval.specs.Rectangles.{Rectangle, sub_rectangles}
+use Rattle.certified_inverse.specs.Certificate.{and_then, each_two, combination, greatest, nought_rectangle, one_rectangle, unit_row, unit_rectangles, row_left}
 
 module _ {Z : Type 0} (size : Z → ℕ) where
   -- the greatest size of the whole, from the greatest so far and what is left
@@ -38,18 +38,18 @@ module _ {Z : Type 0} (size : Z → ℕ) where
   greatest_all whole left most el k = k ∙ ap (λ l. and_then l (λ zs. Some (max most (greatest (map size zs))))) el ∙ (let e : max most 0 ≡ most = omega arith in ap Some e)
 
 -- ---- the unit matrix
-pub length-unit_boxes : (s n : ℕ) → length (unit_boxes s n) ≡ n
-length-unit_boxes s zero = refl
-length-unit_boxes s (suc n) = ap suc (length-map (unit_boxes s n) (λ e. nought_box ∷ e) ∙ length-unit_boxes s n)
+pub length-unit_rectangles : (s n : ℕ) → length (unit_rectangles s n) ≡ n
+length-unit_rectangles s zero = refl
+length-unit_rectangles s (suc n) = ap suc (length-map (unit_rectangles s n) (λ e. nought_rectangle ∷ e) ∙ length-unit_rectangles s n)
 
-unit_at : (s n i : ℕ) → i < n → get_or (unit_boxes s n) i [] ≡ unit_row (one_box s) nought_box n i
+unit_at : (s n i : ℕ) → i < n → get_or (unit_rectangles s n) i [] ≡ unit_row (one_rectangle s) nought_rectangle n i
 unit_at s zero i l = absurd (omega arith)
 unit_at s (suc n) zero l = refl
 unit_at s (suc n) (suc i) l =
-    get_or-map (λ e. nought_box ∷ e) (unit_boxes s n) i [] [] (rw (length-unit_boxes s n) (omega arith)) ∙ ap (λ e. nought_box ∷ e) (unit_at s n i (omega arith))
+    get_or-map (λ e. nought_rectangle ∷ e) (unit_rectangles s n) i [] [] (rw (length-unit_rectangles s n) (omega arith)) ∙ ap (λ e. nought_rectangle ∷ e) (unit_at s n i (omega arith))
 
-pub unit_rows_left : (s n i : ℕ) → i < n → drop i (unit_boxes s n) ≡ unit_row (one_box s) nought_box n i ∷ drop (i + 1) (unit_boxes s n)
-unit_rows_left s n i l = drop_more (unit_boxes s n) i [] (rw (length-unit_boxes s n) l) ∙ ap (λ e. e ∷ drop (i + 1) (unit_boxes s n)) (unit_at s n i l)
+pub unit_rows_left : (s n i : ℕ) → i < n → drop i (unit_rectangles s n) ≡ unit_row (one_rectangle s) nought_rectangle n i ∷ drop (i + 1) (unit_rectangles s n)
+unit_rows_left s n i l = drop_more (unit_rectangles s n) i [] (rw (length-unit_rectangles s n) l) ∙ ap (λ e. e ∷ drop (i + 1) (unit_rectangles s n)) (unit_at s n i l)
 
 pub length-unit_row : {X : Type 0} (one nought : X) (n i : ℕ) → length (unit_row one nought n i) ≡ n
 length-unit_row one nought zero i = refl
@@ -61,12 +61,12 @@ map_noughts nought [] = refl
 map_noughts nought (x ∷ e) = ap (λ ys. nought ∷ ys) (map_noughts nought e)
 
 -- a row of (unit - C·Y), where the sums were formed
-pub row_left-by : (s : ℕ) (ys : List (List Box)) (e cs : List Box) (n : ℕ) (o : Option (List Box)) → length e ≡ n → o ≡ combination s (replicate n nought_box) cs ys
-    → row_left s ys e cs ≡ and_then o (λ sums. each_two sub_boxes e sums)
+pub row_left-by : (s : ℕ) (ys : List (List Rectangle)) (e cs : List Rectangle) (n : ℕ) (o : Option (List Rectangle)) → length e ≡ n → o ≡ combination s (replicate n nought_rectangle) cs ys
+    → row_left s ys e cs ≡ and_then o (λ sums. each_two sub_rectangles e sums)
 row_left-by s ys e cs n o l k =
-    ap (λ z. and_then (combination s z cs ys) (λ sums. each_two sub_boxes e sums)) (map_noughts nought_box e ∙ ap (λ m. replicate m nought_box) l)
-    ∙ ap (λ o. and_then o (λ sums. each_two sub_boxes e sums)) (sym k)
+    ap (λ z. and_then (combination s z cs ys) (λ sums. each_two sub_rectangles e sums)) (map_noughts nought_rectangle e ∙ ap (λ m. replicate m nought_rectangle) l)
+    ∙ ap (λ o. and_then o (λ sums. each_two sub_rectangles e sums)) (sym k)
 
 -- as many as there are noughts
-pub noughts_count : {R : Type 0} (box : R → Box) (items : List R) (n : ℕ) → map box items ≡ replicate n nought_box → length items ≡ n
-noughts_count box items n e = sym (length-map items box) ∙ ap length e ∙ length-replicate n nought_box
+pub noughts_count : {R : Type 0} (rectangle : R → Rectangle) (items : List R) (n : ℕ) → map rectangle items ≡ replicate n nought_rectangle → length items ≡ n
+noughts_count rectangle items n e = sym (length-map items rectangle) ∙ ap length e ∙ length-replicate n nought_rectangle

@@ -1,4 +1,4 @@
--- Whatever list of boxes stands in the place of the inverse: what an enclosure says of each exact matrix that is held.
+-- Whatever list of rectangles stands in the place of the inverse: what an enclosure says of each exact matrix that is held.
 use Rattle.std.proofs.Common.{◌≡◌, ◌+◌, ◌-◌, ◌*◌, ◌^◌, ◌<◌, ◌≤◌, ◌≤ℤ◌, ◌*ℤ◌, Bool, true, false, ℕ, zero, suc, ℤ, pos, List, [], ◌∷◌, length, map, get_or, replicate, slice_get, Option, Some, None, Result, Ok, Err, refl, sym, ap, ◌∙◌, subst, arith, nat_le}
 use Rattle.std.specs.Prelude.{if◌then◌else◌, option_map}
 use Rattle.std.specs.List.{AllZip, AllByRecursion}
@@ -19,12 +19,12 @@ use Rattle.linear_systems.specs.Linear.{dot, less, IsSquare, HasOneSolution}
 use Rattle.linear_systems.specs.Residual.{residual, residuals, unit_rows, zeros, sum_sizes}
 use Rattle.linear_systems.proofs.Instances.{complex_certified}
 use Rattle.linear_systems.proofs.Contraction as T
-use Rattle.complex_interval.specs.Boxes.{Box, EnclosesComplex, IsAtLeastSize, sub_boxes}
+use Rattle.complex_interval.specs.Rectangles.{Rectangle, EnclosesComplex, IsAtLeastSize, sub_rectangles}
 use Rattle.complex_interval.proofs.Sizes.{size_bound}
 use Rattle.certified_inverse.specs.declared.outcome.InverseOutcome.{InverseOutcome}
 use Rattle.certified_inverse.specs.declared.outcome.InverseOutcome.TheVariants.{Enclosed, NotContracting}
-use Rattle.certified_inverse.specs.Certificate.{each_two, greatest, nought_box, unit_row, bounded, valued, sum_products, rows_times, unit_boxes, row_left, rows_left, row_size, column_of, ceil_over, IsOrderedBox, AreBoxes, IsEnclosed, CertificateHolds, EnclosureHolds, HoldsEnclosed, by_inverse, enclosure}
-use Rattle.middle_inverse.specs.Inverse.{one_box, size_of, middle_inverse}
+use Rattle.certified_inverse.specs.Certificate.{each_two, greatest, nought_rectangle, unit_row, bounded, valued, sum_products, rows_times, unit_rectangles, row_left, rows_left, row_size, column_of, ceil_over, IsOrderedRectangle, AreRectangles, IsEnclosed, CertificateHolds, EnclosureHolds, HoldsEnclosed, by_inverse, enclosure}
+use Rattle.middle_inverse.specs.Inverse.{one_rectangle, size_of, middle_inverse}
 use Rattle.middle_inverse.specs.declared.fault.InverseFault.{InverseFault}
 use Rattle.middle_inverse.specs.declared.fault.InverseFault.TheVariants.{NoInverse as NoPivot, OutOfRange as NoValue}
 use Rattle.certified_inverse.proofs.Shape.{inverse_shape}
@@ -32,13 +32,13 @@ use Rattle.certified_inverse.proofs.Raw.{raw, raw-plus, raw-not_negative, raw-mo
 use Rattle.certified_inverse.proofs.Rows.{N, R, one, Held, along, row_along, and_then-some, add_times-holds, combination-holds, sub_row-holds, summed_first}
 
 -- ---- points and units
-abbrev low_value : ℕ → Box → Complex
+abbrev low_value : ℕ → Rectangle → Complex
 low_value s a = complex_over a.re.low a.im.low (2 ^ s)
 
 end_held : (l h : ℤ) (p : ℕ) → l ≤ℤ h → (l *ℤ pos p) ≤ℤ (h *ℤ pos p)
 end_held l h p k = let m = mul-le_left p l h k in omega (arith, ints)
 
-low_held : (s : ℕ) (a : Box) → IsOrderedBox a → EnclosesComplex s a (low_value s a)
+low_held : (s : ℕ) (a : Rectangle) → IsOrderedRectangle a → EnclosesComplex s a (low_value s a)
 unfolding real_part imaginary_part den
 low_held s a o =
     let some = pow_pos s in
@@ -48,11 +48,11 @@ low_held s a o =
       im = record { from = rw e (omega (arith, ints)); to = rw e (end_held a.im.low a.im.high (2 ^ s) o.im) };
     }
 
-lows_held : (s : ℕ) (row : List Box) → AllByRecursion IsOrderedBox row → Held s row (map (low_value s) row)
+lows_held : (s : ℕ) (row : List Rectangle) → AllByRecursion IsOrderedRectangle row → Held s row (map (low_value s) row)
 lows_held s [] o = tt
 lows_held s (a ∷ row) o = (low_held s a o.0, lows_held s row o.1)
 
-rows_held : (s : ℕ) (rows : List (List Box)) → AllByRecursion (λ row. AllByRecursion IsOrderedBox row) rows → AllZip (Held s) rows (map (map (low_value s)) rows)
+rows_held : (s : ℕ) (rows : List (List Rectangle)) → AllByRecursion (λ row. AllByRecursion IsOrderedRectangle row) rows → AllZip (Held s) rows (map (map (low_value s)) rows)
 rows_held s [] o = tt
 rows_held s (row ∷ rows) o = (lows_held s row o.0, rows_held s rows o.1)
 
@@ -62,32 +62,32 @@ zero_holds s = record { from = rw (den-whole (pos 0), num-whole (pos 0)) (omega 
 one_holds : (s : ℕ) → Holds (pos (2 ^ s)) (pos (2 ^ s)) s (whole (pos 1))
 one_holds s = record { from = rw (den-whole (pos 1), num-whole (pos 1)) (omega (arith, ints)); to = rw (den-whole (pos 1), num-whole (pos 1)) (omega (arith, ints)) }
 
-nought_held : (s : ℕ) → EnclosesComplex s nought_box N.nought
+nought_held : (s : ℕ) → EnclosesComplex s nought_rectangle N.nought
 nought_held s = record { re = holds_along _ _ _ _ _ (ratio_ring.back (re-complex_whole (pos 0))) (zero_holds s); im = holds_along _ _ _ _ _ (ratio_ring.back (im-complex_whole (pos 0))) (zero_holds s) }
 
-one_held : (s : ℕ) → EnclosesComplex s (one_box s) N.unit
-unfolding one_box
+one_held : (s : ℕ) → EnclosesComplex s (one_rectangle s) N.unit
+unfolding one_rectangle
 one_held s = record { re = holds_along _ _ _ _ _ (ratio_ring.back (re-complex_whole (pos 1))) (one_holds s); im = holds_along _ _ _ _ _ (ratio_ring.back (im-complex_whole (pos 1))) (zero_holds s) }
 
-zeros_held : (s n : ℕ) → Held s (replicate n nought_box) (zeros N n)
+zeros_held : (s n : ℕ) → Held s (replicate n nought_rectangle) (zeros N n)
 zeros_held s zero = tt
 zeros_held s (suc n) = (nought_held s, zeros_held s n)
 
-later_held : (s : ℕ) (es : List (List Box)) (us : List (List Complex)) → AllZip (Held s) es us → AllZip (Held s) (map (λ e. nought_box ∷ e) es) (map (λ e. N.nought ∷ e) us)
+later_held : (s : ℕ) (es : List (List Rectangle)) (us : List (List Complex)) → AllZip (Held s) es us → AllZip (Held s) (map (λ e. nought_rectangle ∷ e) es) (map (λ e. N.nought ∷ e) us)
 later_held s [] [] h = tt
 later_held s [] (u ∷ us) h = absurd h
 later_held s (e ∷ es) [] h = absurd h
 later_held s (e ∷ es) (u ∷ us) h = ((nought_held s, h.0), later_held s es us h.1)
 
-units_held : (s n : ℕ) → AllZip (Held s) (unit_boxes s n) (unit_rows N n)
+units_held : (s n : ℕ) → AllZip (Held s) (unit_rectangles s n) (unit_rows N n)
 units_held s zero = tt
-units_held s (suc n) = ((one_held s, zeros_held s n), later_held s (unit_boxes s n) (unit_rows N n) (units_held s n))
+units_held s (suc n) = ((one_held s, zeros_held s n), later_held s (unit_rectangles s n) (unit_rows N n) (units_held s n))
 
-replicate_held : (s n : ℕ) → Held s (replicate n nought_box) (replicate n N.nought)
+replicate_held : (s n : ℕ) → Held s (replicate n nought_rectangle) (replicate n N.nought)
 replicate_held s zero = tt
 replicate_held s (suc n) = (nought_held s, replicate_held s n)
 
-unit_row_held : (s n k : ℕ) → Held s (unit_row (one_box s) nought_box n k) (unit_row N.unit N.nought n k)
+unit_row_held : (s n k : ℕ) → Held s (unit_row (one_rectangle s) nought_rectangle n k) (unit_row N.unit N.nought n k)
 unit_row_held s zero k = tt
 unit_row_held s (suc n) zero = (one_held s, replicate_held s n)
 unit_row_held s (suc n) (suc k) = (nought_held s, unit_row_held s n k)
@@ -120,7 +120,7 @@ same_length P (x ∷ xs) [] h = absurd h
 same_length P (x ∷ xs) (y ∷ ys) h = ap suc (same_length P xs ys h.1)
 
 -- ---- theta
-noughts_held : (s : ℕ) (e : List Box) (es : List Complex) → Held s e es → Held s (map (λ _. nought_box) e) (map (λ _. N.nought) es)
+noughts_held : (s : ℕ) (e : List Rectangle) (es : List Complex) → Held s e es → Held s (map (λ _. nought_rectangle) e) (map (λ _. N.nought) es)
 noughts_held s [] [] h = tt
 noughts_held s [] (c ∷ es) h = absurd h
 noughts_held s (a ∷ e) [] h = absurd h
@@ -134,17 +134,17 @@ length-noughts : (es : List Complex) → length (map (λ _. N.nought) es) ≡ le
 length-noughts [] = refl
 length-noughts (c ∷ es) = ap suc (length-noughts es)
 
-row_left-holds : (s : ℕ) (ys : List (List Box)) (e cs new : List Box) (us : List (List Complex)) (es gs : List Complex) → row_left s ys e cs ≡ Some new → AllZip (Held s) ys us → AllByRecursion (λ u. length u ≡ length es) us → Held s e es → Held s cs gs
+row_left-holds : (s : ℕ) (ys : List (List Rectangle)) (e cs new : List Rectangle) (us : List (List Complex)) (es gs : List Complex) → row_left s ys e cs ≡ Some new → AllZip (Held s) ys us → AllByRecursion (λ u. length u ≡ length es) us → Held s e es → Held s cs gs
     → Held s new (residual N gs us es)
 row_left-holds s ys e cs new us es gs k hy w he hc =
     let (sums, ek, k) = and_then-some _ _ _ k in
-    let h = combination-holds s (map (λ _. nought_box) e) cs ys sums (map (λ _. N.nought) es) gs us ek (noughts_held s e es he) hc hy in
+    let h = combination-holds s (map (λ _. nought_rectangle) e) cs ys sums (map (λ _. N.nought) es) gs us ek (noughts_held s e es he) hc hy in
     row_along s new _ _ (summed_first gs us (map (λ _. N.nought) es) es es w (length-noughts es) (less_noughts es)) (sub_row-holds s e sums new es _ k he h)
 
 widths_along : (n m : ℕ) (us : List (List Complex)) → n ≡ m → AllByRecursion (λ u. length u ≡ n) us → AllByRecursion (λ u. length u ≡ m) us
 widths_along n m us e w = subst (λ i. AllByRecursion (λ u. length u ≡ i) us) e w
 
-rows_left-hold : (s n : ℕ) (ys es cs new : List (List Box)) (us fs gs : List (List Complex)) → rows_left s es cs ys ≡ Some new → AllZip (Held s) ys us → AllByRecursion (λ u. length u ≡ n) us → AllZip (Held s) es fs → AllByRecursion (λ e. length e ≡ n) fs → AllZip (Held s) cs gs
+rows_left-hold : (s n : ℕ) (ys es cs new : List (List Rectangle)) (us fs gs : List (List Complex)) → rows_left s es cs ys ≡ Some new → AllZip (Held s) ys us → AllByRecursion (λ u. length u ≡ n) us → AllZip (Held s) es fs → AllByRecursion (λ e. length e ≡ n) fs → AllZip (Held s) cs gs
     → AllZip (Held s) new (residuals N gs us fs)
 rows_left-hold s n ys [] [] new us [] [] k hy w he wf hc = let q : [] ≡ new = cc in subst (λ r. AllZip (Held s) r []) q tt
 rows_left-hold s n ys [] [] new us [] (g ∷ gs) k hy w he wf hc = absurd hc
@@ -160,11 +160,11 @@ rows_left-hold s n ys (e ∷ es) (c ∷ cs) new us (f ∷ fs) (g ∷ gs) k hy w 
     subst (λ r. AllZip (Held s) r (residual N g us f ∷ residuals N gs us fs)) q
     (row_left-holds s ys e c d us f g ed hy (widths_along n (length f) us (sym wf.0) w) he.0 hc.0, rows_left-hold s n ys es cs ds us fs gs eds hy w he.1 wf.1 hc.1)
 
-size_bounded : (s : ℕ) (a : Box) (z : Complex) → EnclosesComplex s a z → NotNegative (plus (raw s (size_of a)) (opposite (complex_size z)))
+size_bounded : (s : ℕ) (a : Rectangle) (z : Complex) → EnclosesComplex s a z → NotNegative (plus (raw s (size_of a)) (opposite (complex_size z)))
 unfolding size_of
 size_bounded s a z h = size_raw s _ z (size_bound s a z h)
 
-row_bounded : (s : ℕ) (row : List Box) (r : List Complex) → Held s row r → NotNegative (plus (raw s (row_size row)) (opposite (sum_sizes complex_numbers ratio_numbers complex_size r)))
+row_bounded : (s : ℕ) (row : List Rectangle) (r : List Complex) → Held s row r → NotNegative (plus (raw s (row_size row)) (opposite (sum_sizes complex_numbers ratio_numbers complex_size r)))
 row_bounded s [] [] h = ratio_order.along (ring ratio_ring (raw s 0 ∷ []) (search reads depth 40 fits 4000) none_left) (raw-not_negative s 0)
 row_bounded s [] (c ∷ r) h = absurd h
 row_bounded s (a ∷ row) [] h = absurd h
@@ -179,7 +179,7 @@ row_bounded s (a ∷ row) (c ∷ r) h =
 raise : (s m n : ℕ) (t : Ratio) → m ≤ n → NotNegative (plus (raw s m) (opposite t)) → NotNegative (plus (raw s n) (opposite t))
 raise s m n t l h = ratio_order.along (ring ratio_ring (raw s m ∷ raw s n ∷ t ∷ []) (search reads depth 40 fits 4000) none_left) (ratio_order.sum (raw-more s m n l) h)
 
-rows_bounded : (s m : ℕ) (rows : List (List Box)) (rs : List (List Complex)) → greatest (map row_size rows) ≤ m → AllZip (Held s) rows rs
+rows_bounded : (s m : ℕ) (rows : List (List Rectangle)) (rs : List (List Complex)) → greatest (map row_size rows) ≤ m → AllZip (Held s) rows rs
     → AllByRecursion (λ r. NotNegative (plus (raw s m) (opposite (sum_sizes complex_numbers ratio_numbers complex_size r)))) rs
 rows_bounded s m [] [] l h = tt
 rows_bounded s m [] (r ∷ rs) l h = absurd h
@@ -187,7 +187,7 @@ rows_bounded s m (row ∷ rows) [] l h = absurd h
 rows_bounded s m (row ∷ rows) (r ∷ rs) l h = (raise s (row_size row) m _ (omega arith) (row_bounded s row r h.0), rows_bounded s m rows rs (omega arith) h.1)
 
 -- ---- sigma
-sum_products-holds : (s : ℕ) (sum : Box) (cs xs : List Box) (v : Box) (t : Complex) (gs zs : List Complex) → sum_products s sum cs xs ≡ Some v → EnclosesComplex s sum t → Held s cs gs → Held s xs zs → EnclosesComplex s v (complex_plus t (dot N gs zs))
+sum_products-holds : (s : ℕ) (sum : Rectangle) (cs xs : List Rectangle) (v : Rectangle) (t : Complex) (gs zs : List Complex) → sum_products s sum cs xs ≡ Some v → EnclosesComplex s sum t → Held s cs gs → Held s xs zs → EnclosesComplex s v (complex_plus t (dot N gs zs))
 sum_products-holds s sum [] [] v t [] [] k ht hc hx =
     let q : sum ≡ v = cc in
     let p : t ≅ complex_plus t N.nought = ring R (t ∷ []) (search reads depth 40 fits 4000) none_left in
@@ -203,7 +203,7 @@ sum_products-holds s sum (c ∷ cs) (x ∷ xs) v t (g ∷ gs) (z ∷ zs) k ht hc
     let h = sum_products-holds s more cs xs v (complex_plus t (complex_times g z)) gs zs k (add_times-holds s c sum x more g t z em hc.0 ht hx.0) hc.1 hx.1 in
     along s v _ _ (ring R (t ∷ g ∷ z ∷ dot N gs zs ∷ []) (search reads depth 40 fits 4000) none_left) h
 
-rows_times-hold : (s : ℕ) (rows : List (List Box)) (xs values : List Box) (rs : List (List Complex)) (zs : List Complex) → rows_times s rows xs ≡ Some values → AllZip (Held s) rows rs → Held s xs zs → Held s values (map (λ r. dot N r zs) rs)
+rows_times-hold : (s : ℕ) (rows : List (List Rectangle)) (xs values : List Rectangle) (rs : List (List Complex)) (zs : List Complex) → rows_times s rows xs ≡ Some values → AllZip (Held s) rows rs → Held s xs zs → Held s values (map (λ r. dot N r zs) rs)
 rows_times-hold s [] xs values [] zs k h hx = let q : [] ≡ values = cc in subst (λ r. Held s r []) q tt
 rows_times-hold s [] xs values (r ∷ rs) zs k h hx = absurd h
 rows_times-hold s (row ∷ rows) xs values [] zs k h hx = absurd h
@@ -211,11 +211,11 @@ rows_times-hold s (row ∷ rows) xs values (r ∷ rs) zs k h hx =
     let (d, ed, k) = and_then-some _ _ _ k in
     let (ds, eds, k) = and_then-some _ _ _ k in
     let q : d ∷ ds ≡ values = cc in
-    let h0 = sum_products-holds s nought_box row xs d N.nought r zs ed (nought_held s) h.0 hx in
+    let h0 = sum_products-holds s nought_rectangle row xs d N.nought r zs ed (nought_held s) h.0 hx in
     subst (λ v. Held s v (dot N r zs ∷ map (λ r. dot N r zs) rs)) q
     (along s d _ _ (ring R (dot N r zs ∷ []) (search reads depth 40 fits 4000) none_left) h0, rows_times-hold s rows xs ds rs zs eds h.1 hx)
 
-moved_bounded : (s m : ℕ) (moved : List Box) (gs : List (List Complex)) (zs : List Complex) → greatest (map size_of moved) ≤ m → Held s moved (map (λ g. dot N g zs) gs)
+moved_bounded : (s m : ℕ) (moved : List Rectangle) (gs : List (List Complex)) (zs : List Complex) → greatest (map size_of moved) ≤ m → Held s moved (map (λ g. dot N g zs) gs)
     → AllByRecursion (λ g. NotNegative (plus (raw s m) (opposite (complex_size (dot N g zs))))) gs
 moved_bounded s m [] [] zs l h = tt
 moved_bounded s m [] (g ∷ gs) zs l h = absurd h
@@ -228,14 +228,14 @@ element_has Q [] k x e h = absurd cc
 element_has Q (y ∷ xs) zero x e h = let q : y ≡ x = cc in subst Q q h.0
 element_has Q (y ∷ xs) (suc k) x e h = element_has Q xs k x e h.1
 
-column_ordered : (k : ℕ) (rows : List (List Box)) (x : List Box) → column_of k rows ≡ Some x → AllByRecursion (λ row. AllByRecursion IsOrderedBox row) rows → AllByRecursion IsOrderedBox x × (length x ≡ length rows)
-column_ordered k [] x e h = let q : [] ≡ x = cc in subst (λ r. AllByRecursion IsOrderedBox r × (length r ≡ 0)) q (tt, refl)
+column_ordered : (k : ℕ) (rows : List (List Rectangle)) (x : List Rectangle) → column_of k rows ≡ Some x → AllByRecursion (λ row. AllByRecursion IsOrderedRectangle row) rows → AllByRecursion IsOrderedRectangle x × (length x ≡ length rows)
+column_ordered k [] x e h = let q : [] ≡ x = cc in subst (λ r. AllByRecursion IsOrderedRectangle r × (length r ≡ 0)) q (tt, refl)
 column_ordered k (row ∷ rows) x e h =
     let (d, ed, e) = and_then-some _ _ _ e in
     let (ds, eds, e) = and_then-some _ _ _ e in
     let q : d ∷ ds ≡ x = cc in
     let r = column_ordered k rows ds eds h.1 in
-    subst (λ r. AllByRecursion IsOrderedBox r × (length r ≡ suc (length rows))) q ((element_has IsOrderedBox row k d ed h.0, r.0), ap suc r.1)
+    subst (λ r. AllByRecursion IsOrderedRectangle r × (length r ≡ suc (length rows))) q ((element_has IsOrderedRectangle row k d ed h.0, r.0), ap suc r.1)
 
 difference_at : (Q : Complex → Type 0) (k : ℕ) (near x : List Complex) → k < length near → length near ≡ length x → AllByRecursion Q (less N one near x) → Q (N.◌⊕◌ (get_or x k N.nought) (N.minus (N.◌⊗◌ one (get_or near k N.nought))))
 difference_at Q k [] x l e h = absurd (omega arith)
@@ -243,7 +243,7 @@ difference_at Q k (c ∷ near) [] l e h = absurd (omega arith)
 difference_at Q zero (c ∷ near) (d ∷ x) l e h = h.0
 difference_at Q (suc k) (c ∷ near) (d ∷ x) l e h = difference_at Q k near x (omega arith) (omega arith) h.1
 
-value_at : (s k : ℕ) (x : List Box) (v : Box) → slice_get x k ≡ Some v → k < length x → get_or (map (low_value s) x) k N.nought ≡ low_value s v
+value_at : (s k : ℕ) (x : List Rectangle) (v : Rectangle) → slice_get x k ≡ Some v → k < length x → get_or (map (low_value s) x) k N.nought ≡ low_value s v
 value_at s k x v e l =
     let m : slice_get (map (low_value s) x) k ≡ Some (low_value s v) = slice_get-map (low_value s) x k ∙ ap (option_map (low_value s)) e in
     let g : slice_get (map (low_value s) x) k ≡ Some (get_or (map (low_value s) x) k N.nought) = slice_get-get_or (map (low_value s) x) k N.nought (rw (length-map x (low_value s)) l) in
@@ -275,10 +275,10 @@ some_same x y e = cc
 enclosed_same : (a b c d : ℤ) (m n : ℕ) → Enclosed a b m ≡ Enclosed c d n → (a ≡ c) × (b ≡ d) × (m ≡ n)
 enclosed_same a b c d m n e = (cc, cc, cc)
 
-point_same : (s : ℕ) (v : Box) (re im : ℤ) → v.re.low ≡ re → v.im.low ≡ im → low_value s v ≡ complex_over re im (2 ^ s)
+point_same : (s : ℕ) (v : Rectangle) (re im : ℤ) → v.re.low ≡ re → v.im.low ≡ im → low_value s v ≡ complex_over re im (2 ^ s)
 point_same s v re im p q = cc
 
--- ---- both parts of the law, from what the boxes hold
+-- ---- both parts of the law, from what the rectangles hold
 core : (s n k theta sigma error : ℕ) (gs us : List (List Complex)) (near : List Complex) → theta < 2 ^ s → sigma * 2 ^ s ≤ error * (2 ^ s - theta) → k < n → length gs ≡ n → length near ≡ n → IsSquare N n us
     → AllByRecursion (λ r. NotNegative (plus (raw s theta) (opposite (sum_sizes complex_numbers ratio_numbers complex_size r)))) (residuals N gs us (unit_rows N n))
     → AllByRecursion (λ g. NotNegative (plus (raw s sigma) (opposite (complex_size (dot N g (less N one (map (λ u. dot N u near) us) (unit_row N.unit N.nought n k))))))) gs
@@ -313,7 +313,7 @@ close_to s error d z h =
     raw_size s error (complex_difference d z) (size_along s error (N.◌⊕◌ d (N.minus (N.◌⊗◌ one z))) (complex_difference d z) p h)
 
 pub certificate_holds : (s : ℕ) → CertificateHolds s
-certificate_holds s n k cs ys re im error exact lk boxes e square held =
+certificate_holds s n k cs ys re im error exact lk rectangles e square held =
     let (theta, et, e) = bounded-enclosed _ _ re im error e in
     let (small, e) = unless-contracting _ _ _ re im error e in
     let (x, ex, e) = valued-enclosed _ _ re im error e in
@@ -327,14 +327,14 @@ certificate_holds s n k cs ys re im error exact lk boxes e square held =
     let size : length ys ≡ n = same_length _ ys exact held ∙ square.count in
     let gs = map (map (low_value s)) cs in
     let near = map (low_value s) x in
-    let hc = rows_held s cs boxes.ordered in
-    let col = column_ordered k cs x ex boxes.ordered in
+    let hc = rows_held s cs rectangles.ordered in
+    let col = column_ordered k cs x ex rectangles.ordered in
     let hx = lows_held s x col.0 in
     let lt : theta < 2 ^ s = below_one (2 ^ s) theta small in
     let top : greatest (map row_size rows) ≡ theta = some_same _ _ et in
-    let er' : rows_left s (unit_boxes s n) cs ys ≡ Some rows = subst (λ i. rows_left s (unit_boxes s i) cs ys ≡ Some rows) size er in
-    let t = rows_bounded s theta rows (residuals N gs exact (unit_rows N n)) (omega arith) (rows_left-hold s n ys (unit_boxes s n) cs rows exact (unit_rows N n) gs er' held square.widths (units_held s n) (unit_widths n) hc) in
-    let el' : each_two sub_boxes (unit_row (one_box s) nought_box n k) values ≡ Some left = subst (λ i. each_two sub_boxes (unit_row (one_box s) nought_box i k) values ≡ Some left) size el in
+    let er' : rows_left s (unit_rectangles s n) cs ys ≡ Some rows = subst (λ i. rows_left s (unit_rectangles s i) cs ys ≡ Some rows) size er in
+    let t = rows_bounded s theta rows (residuals N gs exact (unit_rows N n)) (omega arith) (rows_left-hold s n ys (unit_rectangles s n) cs rows exact (unit_rows N n) gs er' held square.widths (units_held s n) (unit_widths n) hc) in
+    let el' : each_two sub_rectangles (unit_row (one_rectangle s) nought_rectangle n k) values ≡ Some left = subst (λ i. each_two sub_rectangles (unit_row (one_rectangle s) nought_rectangle i k) values ≡ Some left) size el in
     let hv = rows_times-hold s ys x values exact near ea held hx in
     let hl = sub_row-holds s _ values left _ _ el' (unit_row_held s n k) hv in
     let hm = rows_times-hold s cs left moved gs _ em hc hl in
@@ -344,9 +344,9 @@ certificate_holds s n k cs ys re im error exact lk boxes e square held =
     let parts = enclosed_same _ _ re im err error e in
     let last : err ≡ error = parts.2 in
     let enough : sigma * 2 ^ s ≤ error * (2 ^ s - theta) = subst (λ i. sigma * 2 ^ s ≤ i * (2 ^ s - theta)) (up ∙ last) (ceil_over-enough (sigma * 2 ^ s) (2 ^ s - theta) (omega arith)) in
-    let lx : length x ≡ n = col.1 ∙ boxes.count in
+    let lx : length x ≡ n = col.1 ∙ rectangles.count in
     let ln : length near ≡ n = length-map x (low_value s) ∙ lx in
-    let lg : length gs ≡ n = length-map cs (map (low_value s)) ∙ boxes.count in
+    let lg : length gs ≡ n = length-map cs (map (low_value s)) ∙ rectangles.count in
     let (o, close) = core s n k theta sigma error gs exact near lt enough lk lg ln square t m in
     let there : get_or near k N.nought ≡ low_value s value = value_at s k x value ev (omega arith) in
     let spot : low_value s value ≡ complex_over re im (2 ^ s) = point_same s value re im parts.0 parts.1 in
@@ -357,17 +357,17 @@ certificate_holds s n k cs ys re im error exact lk boxes e square held =
     record { one = o; near = close_to s error d (complex_over re im (2 ^ s)) at_point }
 
 -- so with the stated inverse
-by_inverse_holds : (s n k : ℕ) (ys : List (List Box)) (o : Result (List (List Box)) InverseFault) (re im : ℤ) (error : ℕ) (exact : List (List Complex)) → middle_inverse s ys ≡ o → by_inverse s k ys o ≡ Enclosed re im error → k < n
+by_inverse_holds : (s n k : ℕ) (ys : List (List Rectangle)) (o : Result (List (List Rectangle)) InverseFault) (re im : ℤ) (error : ℕ) (exact : List (List Complex)) → middle_inverse s ys ≡ o → by_inverse s k ys o ≡ Enclosed re im error → k < n
     → IsSquare complex_numbers n exact → AllZip (λ row r. AllZip (EnclosesComplex s) row r) ys exact → IsEnclosed s n k re im error exact
 by_inverse_holds s n k ys (Err (NoPivot column)) re im error exact m e lk square held = absurd cc
 by_inverse_holds s n k ys (Err NoValue) re im error exact m e lk square held = absurd cc
 by_inverse_holds s n k ys (Ok cs) re im error exact m e lk square held =
     let size : length ys ≡ n = same_length (λ row r. AllZip (EnclosesComplex s) row r) ys exact held ∙ square.count in
-    certificate_holds s n k cs ys re im error exact lk (subst (λ i. AreBoxes i cs) size (inverse_shape s ys cs m)) e square held
+    certificate_holds s n k cs ys re im error exact lk (subst (λ i. AreRectangles i cs) size (inverse_shape s ys cs m)) e square held
 
 pub enclosure_holds : (s : ℕ) → EnclosureHolds s
 enclosure_holds s n k ys re im error exact lk e square held = by_inverse_holds s n k ys (middle_inverse s ys) re im error exact refl e lk square held
 
 -- of an outcome that is the stated one
-pub held_by : (s n k : ℕ) (ys : List (List Box)) (outcome : InverseOutcome) → k < n → outcome ≡ enclosure s k ys → HoldsEnclosed s n k ys outcome
+pub held_by : (s n k : ℕ) (ys : List (List Rectangle)) (outcome : InverseOutcome) → k < n → outcome ≡ enclosure s k ys → HoldsEnclosed s n k ys outcome
 held_by s n k ys outcome lk stated re im error exact e square held = enclosure_holds s n k ys re im error exact lk (sym stated ∙ e) square held

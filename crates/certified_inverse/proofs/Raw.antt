@@ -8,7 +8,7 @@ use Rattle.exact_algebra.specs.Complex.{Complex, complex_size}
 use Rattle.exact_algebra.proofs.Reader.{reads, ring, linear, weigh, join, none_left}
 use Rattle.exact_algebra.proofs.Ratios.{ratio_ring, ratio_field, num-plus, den-plus, num-times, den-times, num-whole, den-whole}
 use Rattle.exact_algebra.proofs.Order.{NotNegative, ratio_order, at_most_is, not_negative_nought}
-use Rattle.complex_interval.specs.Boxes.{IsAtLeastSize}
+use Rattle.complex_interval.specs.Rectangles.{IsAtLeastSize}
 use Rattle.certified_inverse.specs.Certificate.{ceil_over}
 
 -- n/2^scale

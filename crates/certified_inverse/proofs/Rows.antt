@@ -1,4 +1,4 @@
--- What the products of rows of boxes hold.
+-- What the products of rows of rectangles hold.
 use Rattle.std.proofs.Common.{◌≡◌, ℕ, suc, List, [], ◌∷◌, length, map, Option, Some, None, refl, sym, ap, ◌∙◌, subst, arith}
 use Rattle.std.specs.List.{AllZip, AllByRecursion}
 use Rattle.exact_algebra.specs.Numbers.{Numbers}
@@ -9,8 +9,8 @@ use Rattle.exact_algebra.proofs.Holding.{holds_along}
 use Rattle.exact_algebra.proofs.Reader.{reads, ring, linear, weigh, none_left}
 use Rattle.linear_systems.specs.Linear.{less}
 use Rattle.linear_systems.specs.Residual.{residual}
-use Rattle.complex_interval.specs.Boxes.{Box, EnclosesComplex, sub_boxes}
-use Rattle.complex_interval.proofs.BoxLaws.{add_encloses_box, sub_encloses_box, mul_encloses_box}
+use Rattle.complex_interval.specs.Rectangles.{Rectangle, EnclosesComplex, sub_rectangles}
+use Rattle.complex_interval.proofs.RectangleLaws.{add_encloses_rectangle, sub_encloses_rectangle, mul_encloses_rectangle}
 use Rattle.certified_inverse.specs.Certificate.{and_then, each_two, add_times, combination}
 
 abbrev pub N : Numbers
@@ -22,13 +22,13 @@ R = ring_of complex_numbers complex_field
 abbrev pub one : Complex
 one = N.unit
 
-abbrev pub Held : ℕ → List Box → List Complex → Type 0
+abbrev pub Held : ℕ → List Rectangle → List Complex → Type 0
 Held s row r = AllZip (EnclosesComplex s) row r
 
-pub along : (s : ℕ) (x : Box) (a b : Complex) → a ≅ b → EnclosesComplex s x a → EnclosesComplex s x b
+pub along : (s : ℕ) (x : Rectangle) (a b : Complex) → a ≅ b → EnclosesComplex s x a → EnclosesComplex s x b
 along s x a b p h = record { re = holds_along _ _ _ _ _ p.re h.re; im = holds_along _ _ _ _ _ p.im h.im }
 
-pub row_along : (s : ℕ) (row : List Box) (cs ds : List Complex) → AllZip ◌≅◌ cs ds → Held s row cs → Held s row ds
+pub row_along : (s : ℕ) (row : List Rectangle) (cs ds : List Complex) → AllZip ◌≅◌ cs ds → Held s row cs → Held s row ds
 row_along s [] [] [] h k = tt
 row_along s [] [] (d ∷ ds) h k = absurd h
 row_along s [] (c ∷ cs) ds h k = absurd k
@@ -41,14 +41,14 @@ and_then-some None f y e = absurd cc
 and_then-some (Some x) f y e = (x, refl, e)
 
 -- sum + f a
-pub add_times-holds : (s : ℕ) (f sum a r : Box) (g t b : Complex) → add_times s f sum a ≡ Some r → EnclosesComplex s f g → EnclosesComplex s sum t → EnclosesComplex s a b → EnclosesComplex s r (complex_plus t (complex_times g b))
+pub add_times-holds : (s : ℕ) (f sum a r : Rectangle) (g t b : Complex) → add_times s f sum a ≡ Some r → EnclosesComplex s f g → EnclosesComplex s sum t → EnclosesComplex s a b → EnclosesComplex s r (complex_plus t (complex_times g b))
 unfolding add_times
 add_times-holds s f sum a r g t b e hf ht ha =
     let (p, ep, e) = and_then-some _ _ _ e in
-    add_encloses_box s sum p r t (complex_times g b) ht (mul_encloses_box s f a p g b hf ha ep) e
+    add_encloses_rectangle s sum p r t (complex_times g b) ht (mul_encloses_rectangle s f a p g b hf ha ep) e
 
 -- the sums with a row times its factor, as less the row times the opposite factor
-pub times_row-holds : (s : ℕ) (f : Box) (sums row new : List Box) (g : Complex) (ts us : List Complex) → each_two (add_times s f) sums row ≡ Some new → EnclosesComplex s f g → Held s sums ts → Held s row us → Held s new (less N (N.minus g) us ts)
+pub times_row-holds : (s : ℕ) (f : Rectangle) (sums row new : List Rectangle) (g : Complex) (ts us : List Complex) → each_two (add_times s f) sums row ≡ Some new → EnclosesComplex s f g → Held s sums ts → Held s row us → Held s new (less N (N.minus g) us ts)
 times_row-holds s f [] [] new g [] [] e hf ht hu = let k : [] ≡ new = cc in subst (λ r. Held s r []) k tt
 times_row-holds s f [] [] new g ts (u ∷ us) e hf ht hu = absurd hu
 times_row-holds s f [] [] new g (t ∷ ts) us e hf ht hu = absurd ht
@@ -64,7 +64,7 @@ times_row-holds s f (x ∷ sums) (a ∷ row) new g (t ∷ ts) (u ∷ us) e hf ht
     let q : complex_plus t (complex_times g u) ≅ N.◌⊕◌ t (N.minus (N.◌⊗◌ (N.minus g) u)) = ring R (t ∷ g ∷ u ∷ []) (search reads depth 40 fits 4000) none_left in
     subst (λ r. Held s r (less N (N.minus g) (u ∷ us) (t ∷ ts))) k (along s d _ _ q h, times_row-holds s f sums row ds g ts us eds hf ht.1 hu.1)
 
-pub combination-holds : (s : ℕ) (sums cs : List Box) (ys : List (List Box)) (new : List Box) (ts gs : List Complex) (us : List (List Complex)) → combination s sums cs ys ≡ Some new → Held s sums ts → Held s cs gs → AllZip (Held s) ys us
+pub combination-holds : (s : ℕ) (sums cs : List Rectangle) (ys : List (List Rectangle)) (new : List Rectangle) (ts gs : List Complex) (us : List (List Complex)) → combination s sums cs ys ≡ Some new → Held s sums ts → Held s cs gs → AllZip (Held s) ys us
     → Held s new (residual N (map N.minus gs) us ts)
 combination-holds s sums [] [] new ts [] [] e ht hg hu = let k : sums ≡ new = cc in subst (λ r. Held s r ts) k ht
 combination-holds s sums [] [] new ts [] (u ∷ us) e ht hg hu = absurd hu
@@ -78,7 +78,7 @@ combination-holds s sums (c ∷ cs) (y ∷ ys) new ts (g ∷ gs) (u ∷ us) e ht
     combination-holds s more cs ys new (less N (N.minus g) u ts) gs us e (times_row-holds s c sums y more g ts u em hg.0 ht hu.0) hg.1 hu.1
 
 -- the difference of two rows
-pub sub_row-holds : (s : ℕ) (xs row new : List Box) (ts us : List Complex) → each_two sub_boxes xs row ≡ Some new → Held s xs ts → Held s row us → Held s new (less N one us ts)
+pub sub_row-holds : (s : ℕ) (xs row new : List Rectangle) (ts us : List Complex) → each_two sub_rectangles xs row ≡ Some new → Held s xs ts → Held s row us → Held s new (less N one us ts)
 sub_row-holds s [] [] new [] [] e ht hu = let k : [] ≡ new = cc in subst (λ r. Held s r []) k tt
 sub_row-holds s [] [] new ts (u ∷ us) e ht hu = absurd hu
 sub_row-holds s [] [] new (t ∷ ts) us e ht hu = absurd ht
@@ -90,7 +90,7 @@ sub_row-holds s (x ∷ xs) (a ∷ row) new (t ∷ ts) (u ∷ us) e ht hu =
     let (d, ed, e) = and_then-some _ _ _ e in
     let (ds, eds, e) = and_then-some _ _ _ e in
     let k : d ∷ ds ≡ new = cc in
-    let h = sub_encloses_box s x a d t u ht.0 hu.0 ed in
+    let h = sub_encloses_rectangle s x a d t u ht.0 hu.0 ed in
     let q : complex_difference t u ≅ N.◌⊕◌ t (N.minus (N.◌⊗◌ one u)) = ring R (t ∷ u ∷ []) (search reads depth 40 fits 4000) none_left in
     subst (λ r. Held s r (less N one (u ∷ us) (t ∷ ts))) k (along s d _ _ q h, sub_row-holds s xs row ds ts us eds ht.1 hu.1)
 

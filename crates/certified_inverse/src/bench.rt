@@ -1,6 +1,6 @@
 // A bench on which an entry of a solution is enclosed.
 ghost use Rattle.std.specs.Prelude.{◌≡◌, ◌<◌, ◌≤◌, ◌-◌, ◌*◌, ◌^◌, IfOk, length};
-ghost use Rattle.complex_interval.specs.Rect.{box_of};
+ghost use Rattle.complex_interval.specs.Rect.{rectangle_of};
 ghost use Rattle.plain_elimination.specs.Matrix.{Square};
 ghost use Rattle.certified_inverse.specs.Certificate.{valued, in_size, ceil_over, certified, enclosure, HoldsEnclosed};
 ghost use Rattle.certified_inverse.specs.declared.outcome.InverseOutcome.TheVariants.{Enclosed};
@@ -41,7 +41,7 @@ impl<E: Enclosure> Model for InverseBench<E> {
 fn enclosed_by<E: Enclosure>(value: Rect<E>, theta: u64, sigma: u64) -> InverseOutcome
     requires contracting { theta < 2 ^ E.SCALE }
     requires sigma_in { sigma ≤ 2 ^ 62 }
-    ensures { result ≡ valued (in_size (ceil_over (sigma * 2 ^ E.SCALE) (2 ^ E.SCALE - theta))) (λ error. Enclosed (box_of E.ends value).re.low (box_of E.ends value).im.low error) }
+    ensures { result ≡ valued (in_size (ceil_over (sigma * 2 ^ E.SCALE) (2 ^ E.SCALE - theta))) (λ error. Enclosed (rectangle_of E.ends value).re.low (rectangle_of E.ends value).im.low error) }
 {
     match error_over(E::SCALE, theta, sigma) {
         Some(error) => InverseOutcome::Enclosed {

@@ -1,8 +1,8 @@
 // Numbers that are kept: none is above 2^62.
 ghost use Rattle.std.specs.Prelude.{◌≡◌, ◌<◌, ◌≤◌, ◌+◌, ◌-◌, ◌*◌, ◌^◌, length, map};
 ghost use Rattle.std.specs.Option.{option_map};
-ghost use Rattle.complex_interval.specs.Rect.{box_of};
-ghost use Rattle.complex_interval.specs.Boxes.{sub_boxes};
+ghost use Rattle.complex_interval.specs.Rect.{rectangle_of};
+ghost use Rattle.complex_interval.specs.Rectangles.{sub_rectangles};
 ghost use Rattle.certified_inverse.specs.Certificate.{each_two, row_size, in_size, ceil_over};
 ghost use Rattle.plain_elimination.specs.declared.limits.TheConstants.{MAX_SIZE};
 
@@ -27,7 +27,7 @@ pub fn in_size(number: u128) -> Option<u64>
 pub fn size_apart<E: Enclosure>(row: &[Rect<E>], other: &[Rect<E>]) -> Option<u128>
     requires same { length row.now ≡ length other.now }
     requires few { length row.now ≤ MAX_SIZE }
-    ensures { result ≡ option_map row_size (each_two sub_boxes (map (box_of E.ends) row.now) (map (box_of E.ends) other.now)) }
+    ensures { result ≡ option_map row_size (each_two sub_rectangles (map (rectangle_of E.ends) row.now) (map (rectangle_of E.ends) other.now)) }
 {
     let mut total: u128 = 0;
     for i in 0..row.len() {

@@ -1,8 +1,8 @@
 // Sums of products, in ascending order.
 ghost use Rattle.std.specs.Prelude.{◌≡◌, ◌≤◌, ◌*◌, length, map, replicate};
 ghost use Rattle.std.specs.Option.{option_map};
-ghost use Rattle.complex_interval.specs.Rect.{box_of};
-ghost use Rattle.plain_elimination.specs.Matrix.{nought_box};
+ghost use Rattle.complex_interval.specs.Rect.{rectangle_of};
+ghost use Rattle.plain_elimination.specs.Matrix.{nought_rectangle};
 ghost use Rattle.certified_inverse.specs.Certificate.{each_two, add_times, combination, sum_products};
 
 use complex_interval::{Enclosure, Rect};
@@ -10,7 +10,7 @@ use plain_elimination::{Matrix, clear_cells};
 
 /// sum + f a.
 fn add_times<E: Enclosure>(f: Rect<E>, sum: Rect<E>, a: Rect<E>) -> Option<Rect<E>>
-    ensures { option_map (box_of E.ends) result ≡ add_times E.SCALE (box_of E.ends f) (box_of E.ends sum) (box_of E.ends a) }
+    ensures { option_map (rectangle_of E.ends) result ≡ add_times E.SCALE (rectangle_of E.ends f) (rectangle_of E.ends sum) (rectangle_of E.ends a) }
 {
     let part = f.mul(a)?;
     sum.add(part)
@@ -19,8 +19,8 @@ fn add_times<E: Enclosure>(f: Rect<E>, sum: Rect<E>, a: Rect<E>) -> Option<Rect<
 /// The sum, and on top of it the product of each two entries.
 pub fn sum_products<E: Enclosure>(first: Rect<E>, cs: &[Rect<E>], xs: &[Rect<E>]) -> Option<Rect<E>>
     requires { length cs.now ≡ length xs.now }
-    ensures { option_map (box_of E.ends) result
-        ≡ sum_products E.SCALE (box_of E.ends first) (map (box_of E.ends) cs.now) (map (box_of E.ends) xs.now) }
+    ensures { option_map (rectangle_of E.ends) result
+        ≡ sum_products E.SCALE (rectangle_of E.ends first) (map (rectangle_of E.ends) cs.now) (map (rectangle_of E.ends) xs.now) }
 {
     let mut sum = first;
     for i in 0..cs.len() {
@@ -32,8 +32,8 @@ pub fn sum_products<E: Enclosure>(first: Rect<E>, cs: &[Rect<E>], xs: &[Rect<E>]
 // A row times a factor, on top of the sums.
 fn add_row<E: Enclosure>(sums: &mut [Rect<E>], f: Rect<E>, row: &[Rect<E>]) -> Option<()>
     requires { length sums.old ≡ length row.now }
-    ensures { option_map (λ _. map (box_of E.ends) sums.new) result
-        ≡ each_two (add_times E.SCALE (box_of E.ends f)) (map (box_of E.ends) sums.old) (map (box_of E.ends) row.now) }
+    ensures { option_map (λ _. map (rectangle_of E.ends) sums.new) result
+        ≡ each_two (add_times E.SCALE (rectangle_of E.ends f)) (map (rectangle_of E.ends) sums.old) (map (rectangle_of E.ends) row.now) }
 {
     for i in 0..sums.len() {
         sums[i] = add_times(f, sums[i], row[i])?;
@@ -49,8 +49,8 @@ pub fn combine<E: Enclosure>(
 ) -> Option<()>
     requires sums_in { length sums.old ≡ matrix.now.size }
     requires factors_in { length factors.now ≡ matrix.now.size }
-    ensures { option_map (λ _. map (box_of E.ends) sums.new) result
-        ≡ combination E.SCALE (replicate matrix.now.size nought_box) (map (box_of E.ends) factors.now) matrix.now.rows }
+    ensures { option_map (λ _. map (rectangle_of E.ends) sums.new) result
+        ≡ combination E.SCALE (replicate matrix.now.size nought_rectangle) (map (rectangle_of E.ends) factors.now) matrix.now.rows }
 {
     clear_cells(sums);
     for i in 0..matrix.size() {

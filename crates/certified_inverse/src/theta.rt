@@ -1,9 +1,9 @@
 // How far the product of both matrices is from the unit matrix.
 ghost use Rattle.std.specs.Prelude.{◌≡◌, ◌<◌, ◌≤◌, length, map};
 ghost use Rattle.std.specs.Option.{option_map};
-ghost use Rattle.complex_interval.specs.Rect.{box_of};
-ghost use Rattle.plain_elimination.specs.Matrix.{Square, nought_box};
-ghost use Rattle.certified_inverse.specs.Certificate.{and_then, one_box, unit_row, row_size, row_left, theta_of, in_size};
+ghost use Rattle.complex_interval.specs.Rect.{rectangle_of};
+ghost use Rattle.plain_elimination.specs.Matrix.{Square, nought_rectangle};
+ghost use Rattle.certified_inverse.specs.Certificate.{and_then, one_rectangle, unit_row, row_size, row_left, theta_of, in_size};
 ghost use Rattle.plain_elimination.specs.declared.limits.TheConstants.{MAX_SIZE};
 
 use crate::size::{in_size, size_apart};
@@ -25,7 +25,7 @@ fn row_total<E: Enclosure>(
     requires factors_in { length factors.now ≡ matrix.now.size }
     requires unit_in { length unit.old ≡ matrix.now.size }
     requires sums_in { length sums.old ≡ matrix.now.size }
-    ensures { result ≡ option_map row_size (row_left E.SCALE matrix.now.rows (unit_row (one_box E.SCALE) nought_box matrix.now.size place) (map (box_of E.ends) factors.now)) }
+    ensures { result ≡ option_map row_size (row_left E.SCALE matrix.now.rows (unit_row (one_rectangle E.SCALE) nought_rectangle matrix.now.size place) (map (rectangle_of E.ends) factors.now)) }
 {
     write_unit(unit, place);
     combine(sums, factors, matrix)?;

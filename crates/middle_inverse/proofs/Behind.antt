@@ -1,17 +1,17 @@
 -- The inverse behind the middles on a bench.
 use Rattle.std.proofs.Common.{◌≡◌, ℕ, ◌+◌, ◌-◌, ◌<◌, List, [], length, get_or, drop, map, replicate, Result, Ok, Err, refl, sym, ap, ◌∙◌, arith}
 use Rattle.std.proofs.lemmas.List.{length-map, get_or-map, drop-map, drop-replicate}
-use Rattle.complex_interval.specs.Boxes.{Box}
+use Rattle.complex_interval.specs.Rectangles.{Rectangle}
 use Rattle.plain_elimination.proofs.Places.{map-replicate}
 use Rattle.middle_inverse.specs.Inverse.{bind}
 use Rattle.middle_inverse.specs.declared.fault.InverseFault.{InverseFault}
 
 -- a row of the inverse
-pub row_behind : {V R : Type 0} (items : V → List R) (box : R → Box) (n i : ℕ) (rows : List V) (v : V) → i < length rows → v ≡ get_or rows i v
-    → map box (drop n (items v)) ≡ get_or (map (λ row. drop n row) (map (λ r. map box (items r)) rows)) i []
-row_behind {V} items box n i rows v l e =
-    let h = λ (r : V). map box (items r) in
-    sym (get_or-map (λ row. drop n row) (map h rows) i [] [] (rw (length-map rows h) l) ∙ ap (drop n) (get_or-map h rows i v [] l ∙ ap h (sym e)) ∙ drop-map box n (items v))
+pub row_behind : {V R : Type 0} (items : V → List R) (rectangle : R → Rectangle) (n i : ℕ) (rows : List V) (v : V) → i < length rows → v ≡ get_or rows i v
+    → map rectangle (drop n (items v)) ≡ get_or (map (λ row. drop n row) (map (λ r. map rectangle (items r)) rows)) i []
+row_behind {V} items rectangle n i rows v l e =
+    let h = λ (r : V). map rectangle (items r) in
+    sym (get_or-map (λ row. drop n row) (map h rows) i [] [] (rw (length-map rows h) l) ∙ ap (drop n) (get_or-map h rows i v [] l ∙ ap h (sym e)) ∙ drop-map rectangle n (items v))
 
 -- the rows at first
 pub noughts_behind : {X : Type 0} (n : ℕ) (x : X) (rows : List (List X)) → rows ≡ replicate n (replicate (n + n) x) → map (λ row. drop n row) rows ≡ replicate n (replicate n x)

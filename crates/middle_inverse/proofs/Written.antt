@@ -1,9 +1,9 @@
 -- Loops that write a list place by place, and what a bench's rows are at first.
 use Rattle.std.proofs.Common.{◌≡◌, ℕ, zero, suc, ◌+◌, ◌<◌, ◌≤◌, List, [], ◌∷◌, ◌++◌, length, get_or, set, take, drop, map, replicate, refl, sym, ap, ◌∙◌, append_assoc, append-nil, arith}
 use Rattle.std.proofs.lemmas.List.{length-map, map-set, take_more_set, take_all, drop_all}
-use Rattle.complex_interval.specs.Boxes.{Box}
-use Rattle.plain_elimination.specs.Matrix.{nought_box}
-use Rattle.middle_inverse.specs.Inverse.{middle_point, one_box, unit_row, with_units}
+use Rattle.complex_interval.specs.Rectangles.{Rectangle}
+use Rattle.plain_elimination.specs.Matrix.{nought_rectangle}
+use Rattle.middle_inverse.specs.Inverse.{middle_point, one_rectangle, unit_row, with_units}
 
 module _ {R X : Type 0} (h : R → X) (all : List X) where
   -- what is written up to i, and what is left of the whole
@@ -27,8 +27,8 @@ unit_written one nought (suc n) zero l = refl
 unit_written one nought (suc n) (suc i) l = ap (λ xs. nought ∷ xs) (unit_written one nought n i (omega arith))
 
 -- the rows by their numbers
-pub drop-with_units : (s n j i : ℕ) (rows : List (List Box)) → i < length rows
-    → drop i (with_units s n j rows) ≡ (map middle_point (get_or rows i []) ++ unit_row (one_box s) nought_box n (j + i)) ∷ drop (i + 1) (with_units s n j rows)
+pub drop-with_units : (s n j i : ℕ) (rows : List (List Rectangle)) → i < length rows
+    → drop i (with_units s n j rows) ≡ (map middle_point (get_or rows i []) ++ unit_row (one_rectangle s) nought_rectangle n (j + i)) ∷ drop (i + 1) (with_units s n j rows)
 drop-with_units s n j i [] l = absurd (omega arith)
 drop-with_units s n j zero (row ∷ rows) l = let e : j + 0 ≡ j = omega arith in rw e refl
 drop-with_units s n j (suc i) (row ∷ rows) l =
@@ -36,6 +36,6 @@ drop-with_units s n j (suc i) (row ∷ rows) l =
     let f : suc i + 1 ≡ suc (i + 1) = omega arith in
     rw (e, f) (drop-with_units s n (suc j) i rows (omega arith))
 
-pub length-with_units : (s n j : ℕ) (rows : List (List Box)) → length (with_units s n j rows) ≡ length rows
+pub length-with_units : (s n j : ℕ) (rows : List (List Rectangle)) → length (with_units s n j rows) ≡ length rows
 length-with_units s n j [] = refl
 length-with_units s n j (row ∷ rows) = ap suc (length-with_units s n (suc j) rows)

@@ -2,7 +2,7 @@
 ghost use Rattle.std.specs.Prelude.{◌≡◌, ◌+◌, ◌<◌, ◌≤◌, ℕ, ◌++◌, ◌∷◌, Some, Ok, length, map, slice_get};
 ghost use Rattle.std.specs.List.{All};
 ghost use Rattle.std.specs.Option.{option_map};
-ghost use Rattle.complex_interval.specs.Rect.{box_of};
+ghost use Rattle.complex_interval.specs.Rect.{rectangle_of};
 ghost use Rattle.middle_inverse.specs.Lists.{and_then, each};
 ghost use Rattle.middle_inverse.specs.Inverse.{bind, in_range, divided_row, cleared_row, by_pivot, by_rows, pivot_first, column_step, columns_from};
 ghost use Rattle.plain_elimination.specs.declared.limits.TheConstants.{MAX_SIZE};
@@ -20,9 +20,9 @@ fn step_by<E: Enclosure>(
     column: usize,
 ) -> Result<(), InverseFault>
     requires { column ≤ MAX_SIZE }
-    ensures value { bind result (λ _. Ok (map (λ r. map (box_of E.ends) r.items) above.new ++ map (box_of E.ends) first.new ∷ map (λ r. map (box_of E.ends) r.items) below.new))
-        ≡ bind (in_range (slice_get (map (box_of E.ends) first.old) column))
-        (by_pivot E.SCALE column (map (λ r. map (box_of E.ends) r.items) above.old) (map (box_of E.ends) first.old) (map (λ r. map (box_of E.ends) r.items) below.old)) }
+    ensures value { bind result (λ _. Ok (map (λ r. map (rectangle_of E.ends) r.items) above.new ++ map (rectangle_of E.ends) first.new ∷ map (λ r. map (rectangle_of E.ends) r.items) below.new))
+        ≡ bind (in_range (slice_get (map (rectangle_of E.ends) first.old) column))
+        (by_pivot E.SCALE column (map (λ r. map (rectangle_of E.ends) r.items) above.old) (map (rectangle_of E.ends) first.old) (map (λ r. map (rectangle_of E.ends) r.items) below.old)) }
     ensures wide_above { (w : ℕ) → All (λ r. length r.items ≡ w) above.old → All (λ r. length r.items ≡ w) above.new }
     ensures wide_below { (w : ℕ) → All (λ r. length r.items ≡ w) below.old → All (λ r. length r.items ≡ w) below.new }
 {
@@ -46,10 +46,10 @@ fn change_rows<E: Enclosure>(
     column: usize,
     pivot: Rect<E>,
 ) -> Option<()>
-    ensures value { option_map (λ _. map (λ r. map (box_of E.ends) r.items) above.new ++ map (box_of E.ends) first.new ∷ map (λ r. map (box_of E.ends) r.items) below.new) result
-        ≡ and_then (divided_row E.SCALE (box_of E.ends pivot) (map (box_of E.ends) first.old)) (λ q.
-        and_then (each (cleared_row E.SCALE column q) (map (λ r. map (box_of E.ends) r.items) above.old)) (λ a.
-        and_then (each (cleared_row E.SCALE column q) (map (λ r. map (box_of E.ends) r.items) below.old)) (λ b. Some (a ++ q ∷ b)))) }
+    ensures value { option_map (λ _. map (λ r. map (rectangle_of E.ends) r.items) above.new ++ map (rectangle_of E.ends) first.new ∷ map (λ r. map (rectangle_of E.ends) r.items) below.new) result
+        ≡ and_then (divided_row E.SCALE (rectangle_of E.ends pivot) (map (rectangle_of E.ends) first.old)) (λ q.
+        and_then (each (cleared_row E.SCALE column q) (map (λ r. map (rectangle_of E.ends) r.items) above.old)) (λ a.
+        and_then (each (cleared_row E.SCALE column q) (map (λ r. map (rectangle_of E.ends) r.items) below.old)) (λ b. Some (a ++ q ∷ b)))) }
     ensures wide_above { (w : ℕ) → All (λ r. length r.items ≡ w) above.old → All (λ r. length r.items ≡ w) above.new }
     ensures wide_below { (w : ℕ) → All (λ r. length r.items ≡ w) below.old → All (λ r. length r.items ≡ w) below.new }
 {
@@ -66,8 +66,8 @@ fn step_first<E: Enclosure>(
 ) -> Result<(), InverseFault>
     requires some { 0 < length rest.old }
     requires few { column ≤ MAX_SIZE }
-    ensures value { bind result (λ _. Ok (map (λ r. map (box_of E.ends) r.items) above.new ++ map (λ r. map (box_of E.ends) r.items) rest.new))
-        ≡ by_rows E.SCALE column (map (λ r. map (box_of E.ends) r.items) above.old) (map (λ r. map (box_of E.ends) r.items) rest.old) }
+    ensures value { bind result (λ _. Ok (map (λ r. map (rectangle_of E.ends) r.items) above.new ++ map (λ r. map (rectangle_of E.ends) r.items) rest.new))
+        ≡ by_rows E.SCALE column (map (λ r. map (rectangle_of E.ends) r.items) above.old) (map (λ r. map (rectangle_of E.ends) r.items) rest.old) }
     ensures wide_above { (w : ℕ) → All (λ r. length r.items ≡ w) above.old → All (λ r. length r.items ≡ w) above.new }
     ensures wide_rest { (w : ℕ) → All (λ r. length r.items ≡ w) rest.old → All (λ r. length r.items ≡ w) rest.new }
 {
@@ -83,8 +83,8 @@ fn step_rest<E: Enclosure>(
 ) -> Result<(), InverseFault>
     requires some { 0 < length rest.old }
     requires few { column ≤ MAX_SIZE }
-    ensures value { bind result (λ _. Ok (map (λ r. map (box_of E.ends) r.items) above.new ++ map (λ r. map (box_of E.ends) r.items) rest.new))
-        ≡ by_rows E.SCALE column (map (λ r. map (box_of E.ends) r.items) above.old) (pivot_first column (map (λ r. map (box_of E.ends) r.items) rest.old)) }
+    ensures value { bind result (λ _. Ok (map (λ r. map (rectangle_of E.ends) r.items) above.new ++ map (λ r. map (rectangle_of E.ends) r.items) rest.new))
+        ≡ by_rows E.SCALE column (map (λ r. map (rectangle_of E.ends) r.items) above.old) (pivot_first column (map (λ r. map (rectangle_of E.ends) r.items) rest.old)) }
     ensures wide_above { (w : ℕ) → All (λ r. length r.items ≡ w) above.old → All (λ r. length r.items ≡ w) above.new }
     ensures wide_rest { (w : ℕ) → All (λ r. length r.items ≡ w) rest.old → All (λ r. length r.items ≡ w) rest.new }
 {
@@ -100,8 +100,8 @@ pub fn eliminate_column<E: Enclosure>(
 ) -> Result<(), InverseFault>
     requires column_in { column < length rows.old }
     requires few { length rows.old ≤ MAX_SIZE }
-    ensures value { bind result (λ _. Ok (map (λ r. map (box_of E.ends) r.items) rows.new))
-        ≡ column_step E.SCALE column (map (λ r. map (box_of E.ends) r.items) rows.old) }
+    ensures value { bind result (λ _. Ok (map (λ r. map (rectangle_of E.ends) r.items) rows.new))
+        ≡ column_step E.SCALE column (map (λ r. map (rectangle_of E.ends) r.items) rows.old) }
     ensures wide { (w : ℕ) → All (λ r. length r.items ≡ w) rows.old → All (λ r. length r.items ≡ w) rows.new }
 {
     let (above, rest) = rows.split_at_mut(column);
@@ -111,8 +111,8 @@ pub fn eliminate_column<E: Enclosure>(
 /// All columns.
 pub fn eliminate_columns<E: Enclosure>(rows: &mut [Vec<Rect<E>>]) -> Result<(), InverseFault>
     requires few { length rows.old ≤ MAX_SIZE }
-    ensures value { bind result (λ _. Ok (map (λ r. map (box_of E.ends) r.items) rows.new))
-        ≡ columns_from E.SCALE 0 (length rows.old) (map (λ r. map (box_of E.ends) r.items) rows.old) }
+    ensures value { bind result (λ _. Ok (map (λ r. map (rectangle_of E.ends) r.items) rows.new))
+        ≡ columns_from E.SCALE 0 (length rows.old) (map (λ r. map (rectangle_of E.ends) r.items) rows.old) }
     ensures wide { (w : ℕ) → All (λ r. length r.items ≡ w) rows.old → All (λ r. length r.items ≡ w) rows.new }
 {
     for column in 0..rows.len() {

@@ -1,9 +1,9 @@
-// Points: boxes whose ends agree. The low ends of each operation are kept.
+// Points: rectangles whose ends agree. The low ends of each operation are kept.
 ghost use Rattle.std.specs.Prelude.{◌≡◌, ℕ, ◌^◌, ◌≤◌, pos, unsigned_abs};
 ghost use Rattle.std.specs.Option.{option_map};
-ghost use Rattle.complex_interval.specs.Rect.{box_of};
-ghost use Rattle.plain_elimination.specs.Matrix.{nought_box};
-ghost use Rattle.middle_inverse.specs.Inverse.{point_ends, low_point, middle_of, middle_point, one_box, point_quotient, point_less, size_of};
+ghost use Rattle.complex_interval.specs.Rect.{rectangle_of};
+ghost use Rattle.plain_elimination.specs.Matrix.{nought_rectangle};
+ghost use Rattle.middle_inverse.specs.Inverse.{point_ends, low_point, middle_of, middle_point, one_rectangle, point_quotient, point_less, size_of};
 
 use complex_interval::{Enclosure, Rect};
 
@@ -34,7 +34,7 @@ fn middle_of<E: Enclosure>(x: E) -> E
 
 /// Zero alone.
 pub fn nought_point<E: Enclosure>() -> Rect<E>
-    ensures { box_of E.ends result ≡ nought_box }
+    ensures { rectangle_of E.ends result ≡ nought_rectangle }
 {
     Rect {
         re: point(0),
@@ -53,7 +53,7 @@ fn unit_of(scale: u32) -> i64
 
 /// The number 1 alone.
 pub fn one_point<E: Enclosure>() -> Rect<E>
-    ensures { box_of E.ends result ≡ one_box E.SCALE }
+    ensures { rectangle_of E.ends result ≡ one_rectangle E.SCALE }
 {
     Rect {
         re: point(unit_of(E::SCALE)),
@@ -63,7 +63,7 @@ pub fn one_point<E: Enclosure>() -> Rect<E>
 
 /// The point of both low ends.
 pub fn low_point<E: Enclosure>(x: Rect<E>) -> Rect<E>
-    ensures { box_of E.ends result ≡ low_point (box_of E.ends x) }
+    ensures { rectangle_of E.ends result ≡ low_point (rectangle_of E.ends x) }
 {
     Rect {
         re: low_of(x.re),
@@ -73,7 +73,7 @@ pub fn low_point<E: Enclosure>(x: Rect<E>) -> Rect<E>
 
 /// The point of both middles.
 pub fn middle_point<E: Enclosure>(x: Rect<E>) -> Rect<E>
-    ensures { box_of E.ends result ≡ middle_point (box_of E.ends x) }
+    ensures { rectangle_of E.ends result ≡ middle_point (rectangle_of E.ends x) }
 {
     Rect {
         re: middle_of(x.re),
@@ -83,21 +83,21 @@ pub fn middle_point<E: Enclosure>(x: Rect<E>) -> Rect<E>
 
 /// The sum of the sizes of both parts.
 pub fn size_of<E: Enclosure>(x: Rect<E>) -> u64
-    ensures { result ≡ size_of (box_of E.ends x) }
+    ensures { result ≡ size_of (rectangle_of E.ends x) }
 {
     x.norm1_hi()
 }
 
 /// a/b, with the low ends kept.
 pub fn quotient<E: Enclosure>(a: Rect<E>, b: Rect<E>) -> Option<Rect<E>>
-    ensures { option_map (box_of E.ends) result ≡ point_quotient E.SCALE (box_of E.ends a) (box_of E.ends b) }
+    ensures { option_map (rectangle_of E.ends) result ≡ point_quotient E.SCALE (rectangle_of E.ends a) (rectangle_of E.ends b) }
 {
     Some(low_point(a.div(b)?))
 }
 
 /// a - f a0, with the low ends kept of the product and of the difference.
 pub fn less_times<E: Enclosure>(f: Rect<E>, a: Rect<E>, a0: Rect<E>) -> Option<Rect<E>>
-    ensures { option_map (box_of E.ends) result ≡ point_less E.SCALE (box_of E.ends f) (box_of E.ends a) (box_of E.ends a0) }
+    ensures { option_map (rectangle_of E.ends) result ≡ point_less E.SCALE (rectangle_of E.ends f) (rectangle_of E.ends a) (rectangle_of E.ends a0) }
 {
     let part = low_point(f.mul(a0)?);
     Some(low_point(a.sub(part)?))

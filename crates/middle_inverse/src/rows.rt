@@ -2,7 +2,7 @@
 ghost use Rattle.std.specs.Prelude.{◌≡◌, ◌<◌, ℕ, length, map, slice_get};
 ghost use Rattle.std.specs.List.{All};
 ghost use Rattle.std.specs.Option.{option_map};
-ghost use Rattle.complex_interval.specs.Rect.{box_of};
+ghost use Rattle.complex_interval.specs.Rect.{rectangle_of};
 ghost use Rattle.middle_inverse.specs.Lists.{each, each_two, first_greatest};
 ghost use Rattle.middle_inverse.specs.Inverse.{divided_row, cleared_row, point_less, size_at};
 
@@ -11,7 +11,7 @@ use complex_interval::{Enclosure, Rect};
 
 /// Divides each entry by the pivot.
 pub fn divide_row<E: Enclosure>(row: &mut [Rect<E>], pivot: Rect<E>) -> Option<()>
-    ensures { option_map (λ _. map (box_of E.ends) row.new) result ≡ divided_row E.SCALE (box_of E.ends pivot) (map (box_of E.ends) row.old) }
+    ensures { option_map (λ _. map (rectangle_of E.ends) row.new) result ≡ divided_row E.SCALE (rectangle_of E.ends pivot) (map (rectangle_of E.ends) row.old) }
 {
     for i in 0..row.len() {
         row[i] = quotient(row[i], pivot)?;
@@ -22,8 +22,8 @@ pub fn divide_row<E: Enclosure>(row: &mut [Rect<E>], pivot: Rect<E>) -> Option<(
 /// From each entry f times that of the pivot's row is subtracted.
 pub fn subtract_row<E: Enclosure>(row: &mut [Rect<E>], f: Rect<E>, first: &[Rect<E>]) -> Option<()>
     requires { length row.old ≡ length first.now }
-    ensures { option_map (λ _. map (box_of E.ends) row.new) result
-        ≡ each_two (point_less E.SCALE (box_of E.ends f)) (map (box_of E.ends) row.old) (map (box_of E.ends) first.now) }
+    ensures { option_map (λ _. map (rectangle_of E.ends) row.new) result
+        ≡ each_two (point_less E.SCALE (rectangle_of E.ends f)) (map (rectangle_of E.ends) row.old) (map (rectangle_of E.ends) first.now) }
 {
     for i in 0..row.len() {
         row[i] = less_times(f, row[i], first[i])?;
@@ -33,8 +33,8 @@ pub fn subtract_row<E: Enclosure>(row: &mut [Rect<E>], f: Rect<E>, first: &[Rect
 
 /// A row other than the pivot's, whose divided row is `first`: its entry in this column times that row is subtracted.
 pub fn clear_row<E: Enclosure>(row: &mut [Rect<E>], column: usize, first: &[Rect<E>]) -> Option<()>
-    ensures { option_map (λ _. map (box_of E.ends) row.new) result
-        ≡ cleared_row E.SCALE column (map (box_of E.ends) first.now) (map (box_of E.ends) row.old) }
+    ensures { option_map (λ _. map (rectangle_of E.ends) row.new) result
+        ≡ cleared_row E.SCALE column (map (rectangle_of E.ends) first.now) (map (rectangle_of E.ends) row.old) }
 {
     let f = entry_at(row, column)?;
     if row.len() != first.len() {
@@ -49,8 +49,8 @@ pub fn clear_rows<E: Enclosure>(
     column: usize,
     first: &[Rect<E>],
 ) -> Option<()>
-    ensures value { option_map (λ _. map (λ r. map (box_of E.ends) r.items) rows.new) result
-        ≡ each (cleared_row E.SCALE column (map (box_of E.ends) first.now)) (map (λ r. map (box_of E.ends) r.items) rows.old) }
+    ensures value { option_map (λ _. map (λ r. map (rectangle_of E.ends) r.items) rows.new) result
+        ≡ each (cleared_row E.SCALE column (map (rectangle_of E.ends) first.now)) (map (λ r. map (rectangle_of E.ends) r.items) rows.old) }
     ensures wide { (w : ℕ) → All (λ r. length r.items ≡ w) rows.old → All (λ r. length r.items ≡ w) rows.new }
 {
     for i in 0..rows.len() {
@@ -61,7 +61,7 @@ pub fn clear_rows<E: Enclosure>(
 
 /// The entry in this column, if there is one.
 pub fn entry_at<E: Enclosure>(row: &[Rect<E>], column: usize) -> Option<Rect<E>>
-    ensures { option_map (box_of E.ends) result ≡ slice_get (map (box_of E.ends) row.now) column }
+    ensures { option_map (rectangle_of E.ends) result ≡ slice_get (map (rectangle_of E.ends) row.now) column }
 {
     if column < row.len() {
         Some(row[column])
@@ -72,7 +72,7 @@ pub fn entry_at<E: Enclosure>(row: &[Rect<E>], column: usize) -> Option<Rect<E>>
 
 /// The size of the entry in this column.
 pub fn size_at<E: Enclosure>(row: &[Rect<E>], column: usize) -> u64
-    ensures { result ≡ size_at column (map (box_of E.ends) row.now) }
+    ensures { result ≡ size_at column (map (rectangle_of E.ends) row.now) }
 {
     match entry_at(row, column) {
         Some(x) => size_of(x),
@@ -83,7 +83,7 @@ pub fn size_at<E: Enclosure>(row: &[Rect<E>], column: usize) -> u64
 /// The row whose entry in this column is the greatest, the first on ties.
 pub fn pivot_place<E: Enclosure>(rows: &[Vec<Rect<E>>], column: usize) -> usize
     requires { 0 < length rows.now }
-    ensures place { result ≡ first_greatest (map (size_at column) (map (λ r. map (box_of E.ends) r.items) rows.now)) }
+    ensures place { result ≡ first_greatest (map (size_at column) (map (λ r. map (rectangle_of E.ends) r.items) rows.now)) }
     ensures place_in { result < length rows.now }
 {
     let mut i = rows.len();

@@ -1,9 +1,9 @@
 // A bench's rows: the middles of a matrix, and the unit rows beside them.
 ghost use Rattle.std.specs.Prelude.{◌≡◌, ◌+◌, ◌<◌, ◌++◌, ℕ, length, map};
 ghost use Rattle.std.specs.List.{All};
-ghost use Rattle.complex_interval.specs.Rect.{box_of};
-ghost use Rattle.plain_elimination.specs.Matrix.{Square, nought_box};
-ghost use Rattle.middle_inverse.specs.Inverse.{middle_point, one_box, unit_row, with_units};
+ghost use Rattle.complex_interval.specs.Rect.{rectangle_of};
+ghost use Rattle.plain_elimination.specs.Matrix.{Square, nought_rectangle};
+ghost use Rattle.middle_inverse.specs.Inverse.{middle_point, one_rectangle, unit_row, with_units};
 
 use crate::point::{middle_point, one_point};
 use complex_interval::{Enclosure, Rect};
@@ -12,7 +12,7 @@ use plain_elimination::{Matrix, clear_cells};
 // The points of these middles.
 fn write_middles<E: Enclosure>(row: &mut [Rect<E>], from: &[Rect<E>])
     requires { length row.old ≡ length from.now }
-    ensures { map (box_of E.ends) row.new ≡ map middle_point (map (box_of E.ends) from.now) }
+    ensures { map (rectangle_of E.ends) row.new ≡ map middle_point (map (rectangle_of E.ends) from.now) }
 {
     for i in 0..row.len() {
         row[i] = middle_point(from[i]);
@@ -22,7 +22,7 @@ fn write_middles<E: Enclosure>(row: &mut [Rect<E>], from: &[Rect<E>])
 /// The unit row with 1 at this place.
 pub fn write_unit<E: Enclosure>(row: &mut [Rect<E>], place: usize)
     requires { place < length row.old }
-    ensures { map (box_of E.ends) row.new ≡ unit_row (one_box E.SCALE) nought_box (length row.old) place }
+    ensures { map (rectangle_of E.ends) row.new ≡ unit_row (one_rectangle E.SCALE) nought_rectangle (length row.old) place }
 {
     clear_cells(row);
     row[place] = one_point();
@@ -32,8 +32,8 @@ pub fn write_unit<E: Enclosure>(row: &mut [Rect<E>], place: usize)
 fn write_row<E: Enclosure>(row: &mut [Rect<E>], from: &[Rect<E>], place: usize)
     requires twice { length row.old ≡ length from.now + length from.now }
     requires place_in { place < length from.now }
-    ensures { map (box_of E.ends) row.new
-        ≡ map middle_point (map (box_of E.ends) from.now) ++ unit_row (one_box E.SCALE) nought_box (length from.now) place }
+    ensures { map (rectangle_of E.ends) row.new
+        ≡ map middle_point (map (rectangle_of E.ends) from.now) ++ unit_row (one_rectangle E.SCALE) nought_rectangle (length from.now) place }
 {
     let (left, right) = row.split_at_mut(from.len());
     write_middles(left, from);
@@ -44,7 +44,7 @@ fn write_row<E: Enclosure>(row: &mut [Rect<E>], from: &[Rect<E>], place: usize)
 pub fn write_rows<E: Enclosure>(rows: &mut [Vec<Rect<E>>], matrix: &Matrix<E>)
     requires count { length rows.old ≡ matrix.now.size }
     requires wide { All (λ r. length r.items ≡ matrix.now.size + matrix.now.size) rows.old }
-    ensures value { map (λ r. map (box_of E.ends) r.items) rows.new ≡ with_units E.SCALE (length matrix.now.rows) 0 matrix.now.rows }
+    ensures value { map (λ r. map (rectangle_of E.ends) r.items) rows.new ≡ with_units E.SCALE (length matrix.now.rows) 0 matrix.now.rows }
     ensures wide { All (λ r. length r.items ≡ matrix.now.size + matrix.now.size) rows.new }
 {
     for i in 0..matrix.size() {

@@ -5,7 +5,7 @@ use Rattle.exact_algebra.proofs.Differences.{products}
 use Rattle.std.proofs.lemmas.List.{drop-map, take-map, take-take, drop-take, drop-drop, map_push}
 use Rattle.std.proofs.lemmas.Slice.{between-put_mid}
 use borrow.Rule.Slice.PartMut.{put_mid}
-use Rattle.plain_elimination.specs.Elimination.{Boxes, later_row, later_rows}
+use Rattle.plain_elimination.specs.Elimination.{Enclosures, later_row, later_rows}
 use Rattle.plain_elimination.specs.Layout.{rows_of, from_column}
 use Rattle.plain_elimination.proofs.Sweeps.{after, after_push, read}
 
@@ -45,24 +45,24 @@ part_new h cells ys a n k fits l e =
 pub part_old : {R X : Type 0} (h : R → X) (cells : List R) (s n k : ℕ) (e : R) → s < length cells → e ≡ get_or cells s e → k ≡ n → take (suc n) (drop s (map h cells)) ≡ h e ∷ map h (take k (drop (s + 1) cells))
 part_old h cells s n k e l r q = rw (read h cells s e l r, drop-map h (s + 1) cells, q) (ap (λ row. h e ∷ row) (take-map h n (drop (s + 1) cells)))
 
-module _ (B : Boxes) where
-  open B use {Box}
+module _ (B : Enclosures) where
+  open B use {Enclosure}
 
   -- the step of all rows, from what is left after i rows
-  abbrev pub EliminatedTo : {R : Type 0} → (R → Box) → Box → List R → List R → List R → ℕ → ℕ → ℕ → ℕ → Type 0
+  abbrev pub EliminatedTo : {R : Type 0} → (R → Enclosure) → Enclosure → List R → List R → List R → ℕ → ℕ → ℕ → ℕ → Type 0
   EliminatedTo h pivot first old cells n w c i =
       later_rows B pivot (map h first) (from_column c (rows_of n w (map h old)))
       ≡ after (from_column (c + 1) (rows_of i w (map h cells))) (later_rows B pivot (map h first) (from_column c (rows_of (n - i) w (drop (i * w) (map h cells)))))
 
   -- the rows that are left, the next one apart
-  pub next_row : (n w c i k : ℕ) (xs : List Box) → i < n → w ≡ c + suc k
+  pub next_row : (n w c i k : ℕ) (xs : List Enclosure) → i < n → w ≡ c + suc k
       → from_column c (rows_of (n - i) w (drop (i * w) xs)) ≡ take (suc k) (drop (i * w + c) xs) ∷ from_column c (rows_of (n - (i + 1)) w (drop (i * w + w) xs))
   next_row n w c i k xs l e =
       let m : n - i ≡ suc (n - (i + 1)) = omega arith in
       rw (m, drop-drop w (i * w) xs) (ap (λ row. row ∷ from_column c (rows_of (n - (i + 1)) w (drop (i * w + w) xs))) (part_of_row (i * w) c (suc k) w xs e))
 
   -- the rows that are done, with this one
-  pub done_row : (w c i k : ℕ) (xs zs : List Box) → w ≡ c + suc k → take (i * w + c + 1) zs ≡ take (i * w + c + 1) xs
+  pub done_row : (w c i k : ℕ) (xs zs : List Enclosure) → w ≡ c + suc k → take (i * w + c + 1) zs ≡ take (i * w + c + 1) xs
       → from_column (c + 1) (rows_of (i + 1) w zs) ≡ from_column (c + 1) (rows_of i w xs) ++ take k (drop (i * w + c + 1) zs) ∷ []
   done_row w c i k xs zs e before =
       let front : take (i * w) zs ≡ take (i * w) xs = sym (take-take (i * w) (i * w + c + 1) zs (omega arith)) ∙ ap (take (i * w)) before ∙ take-take (i * w) (i * w + c + 1) xs (omega arith) in
@@ -71,17 +71,17 @@ module _ (B : Boxes) where
       ∙ map_push (λ row. drop (c + 1) row) (rows_of i w zs) (take w (drop (i * w) zs))
       ∙ ap₂ (λ rows row. rows ++ row ∷ []) (ap (from_column (c + 1)) (rows_front i w zs xs front)) (part ∙ ap (λ a. take k (drop a zs)) (sym (add_assoc (i * w) c 1)))
 
-  boxes_more : (pivot : Box) (first xs zs : List Box) (n w c i k : ℕ) → i < n → w ≡ c + suc k → Some (take k (drop (i * w + c + 1) zs)) ≡ later_row B pivot first (take (suc k) (drop (i * w + c) xs))
+  rectangles_more : (pivot : Enclosure) (first xs zs : List Enclosure) (n w c i k : ℕ) → i < n → w ≡ c + suc k → Some (take k (drop (i * w + c + 1) zs)) ≡ later_row B pivot first (take (suc k) (drop (i * w + c) xs))
       → take (i * w + c + 1) zs ≡ take (i * w + c + 1) xs → drop (i * w + w) zs ≡ drop (i * w + w) xs
       → after (from_column (c + 1) (rows_of i w xs)) (later_rows B pivot first (from_column c (rows_of (n - i) w (drop (i * w) xs))))
       ≡ after (from_column (c + 1) (rows_of (i + 1) w zs)) (later_rows B pivot first (from_column c (rows_of (n - (i + 1)) w (drop ((i + 1) * w) zs))))
-  boxes_more pivot first xs zs n w c i k l e row before behind =
+  rectangles_more pivot first xs zs n w c i k l e row before behind =
       let m : (i + 1) * w ≡ i * w + w = omega (arith, products) in
       rw (next_row n w c i k xs l e, ← row, done_row w c i k xs zs e before, m, behind)
       (after_push (from_column (c + 1) (rows_of i w xs)) (take k (drop (i * w + c + 1) zs)) (later_rows B pivot first (from_column c (rows_of (n - (i + 1)) w (drop (i * w + w) xs)))))
 
   -- one row more
-  pub rows_more : {R : Type 0} (h : R → Box) (pivot : Box) (first old cells new : List R) (n w c i : ℕ) → i < n → w ≡ c + 1 + length first
+  pub rows_more : {R : Type 0} (h : R → Enclosure) (pivot : Enclosure) (first old cells new : List R) (n w c i : ℕ) → i < n → w ≡ c + 1 + length first
       → Some (take (length first) (drop (i * w + c + 1) (map h new))) ≡ later_row B pivot (map h first) (take (suc (length first)) (drop (i * w + c) (map h cells)))
       → take (i * w + c + 1) new ≡ take (i * w + c + 1) cells → drop (i * w + c + 1 + length first) new ≡ drop (i * w + c + 1 + length first) cells
       → EliminatedTo h pivot first old cells n w c i → EliminatedTo h pivot first old new n w c (i + 1)
@@ -89,10 +89,10 @@ module _ (B : Boxes) where
       let a : i * w + c + 1 + length first ≡ i * w + w = omega arith in
       let before' : take (i * w + c + 1) (map h new) ≡ take (i * w + c + 1) (map h cells) = take-map h (i * w + c + 1) new ∙ ap (map h) before ∙ sym (take-map h (i * w + c + 1) cells) in
       let behind' : drop (i * w + w) (map h new) ≡ drop (i * w + w) (map h cells) = drop-map h (i * w + w) new ∙ ap (map h) (rw a at behind) ∙ sym (drop-map h (i * w + w) cells) in
-      k ∙ boxes_more pivot (map h first) (map h cells) (map h new) n w c i (length first) l (omega arith) row before' behind'
+      k ∙ rectangles_more pivot (map h first) (map h cells) (map h new) n w c i (length first) l (omega arith) row before' behind'
 
   -- a row without a value
-  pub rows_none : {R : Type 0} (h : R → Box) (pivot : Box) (first old cells : List R) (n w c i : ℕ) → i < n → w ≡ c + 1 + length first
+  pub rows_none : {R : Type 0} (h : R → Enclosure) (pivot : Enclosure) (first old cells : List R) (n w c i : ℕ) → i < n → w ≡ c + 1 + length first
       → None ≡ later_row B pivot (map h first) (take (suc (length first)) (drop (i * w + c) (map h cells)))
       → EliminatedTo h pivot first old cells n w c i → later_rows B pivot (map h first) (from_column c (rows_of n w (map h old))) ≡ None
   rows_none h pivot first old cells n w c i l e row k = k ∙ rw (next_row n w c i (length first) (map h cells) l (omega arith), ← row) refl

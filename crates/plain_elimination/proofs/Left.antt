@@ -3,7 +3,7 @@ use Rattle.std.proofs.Common.{◌≡◌, ℕ, suc, ◌+◌, ◌-◌, ◌*◌, �
 use Rattle.std.proofs.Math.Nat.{add-mul, one-mul, sub-zero}
 use Rattle.std.proofs.lemmas.List.{length-drop, drop-map, take-map, drop-take, drop-drop, drop_at, length-map, length-take-le, map-append}
 use Rattle.exact_algebra.proofs.Differences.{products}
-use Rattle.plain_elimination.specs.Elimination.{Boxes, bind, or_fail, split_pivot, later_rows, reduce_step, reduce_from, reduce}
+use Rattle.plain_elimination.specs.Elimination.{Enclosures, bind, or_fail, split_pivot, later_rows, reduce_step, reduce_from, reduce}
 use Rattle.plain_elimination.specs.Layout.{rows_of, from_column, rows_left, pivot_row}
 use Rattle.plain_elimination.specs.declared.failure.Failure.{Failure}
 use Rattle.plain_elimination.specs.declared.failure.Failure.TheVariants.{OutOfRange}
@@ -63,10 +63,10 @@ first_is h c size cells done first ed ef =
 pub later_is : {R X : Type 0} (h : R → X) (c size : ℕ) (cells later : List R) → later ≡ drop ((c + 1) * size) cells → map h later ≡ drop ((c + 1) * size) (map h cells)
 later_is h c size cells later el = ap (map h) el ∙ sym (drop-map h ((c + 1) * size) cells)
 
-module _ (B : Boxes) where
-  open B use {Box}
+module _ (B : Enclosures) where
+  open B use {Enclosure}
 
-  pub column_done : {R : Type 0} (h : R → Box) (result : Result (Unit {0}) Failure) (c size w : ℕ) (cells done later new first : List R) → c < size → length cells ≡ size * size → w ≡ size
+  pub column_done : {R : Type 0} (h : R → Enclosure) (result : Result (Unit {0}) Failure) (c size w : ℕ) (cells done later new first : List R) → c < size → length cells ≡ size * size → w ≡ size
       → done ≡ take ((c + 1) * size) cells → later ≡ drop ((c + 1) * size) cells → first ≡ drop (c * size + c) done
       → bind result (λ _. Ok (from_column (c + 1) (rows_of (size - 1 - c) w (map h new))))
       ≡ bind (split_pivot B (c + 1) (map h first)) (λ split. or_fail (OutOfRange (c + 1)) (later_rows B split.0 split.1 (from_column c (rows_of (size - 1 - c) w (map h later)))))
@@ -77,14 +77,14 @@ module _ (B : Boxes) where
       ∙ ap (reduce_step B (c + 1)) (sym (left_next size c (map h cells) l))
 
   -- the reduction of the whole, from what is left after c steps
-  abbrev pub ReducedTo : {R : Type 0} → (R → Box) → List R → List R → ℕ → ℕ → Type 0
+  abbrev pub ReducedTo : {R : Type 0} → (R → Enclosure) → List R → List R → ℕ → ℕ → Type 0
   ReducedTo h old cells size c = reduce B (rows_of size size (map h old)) ≡ reduce_from B (c + 1) (size - 1 - c) (rows_left size c (map h cells))
 
-  pub reduced_none : {R : Type 0} (h : R → Box) (cells : List R) (size : ℕ) → ReducedTo h cells cells size 0
+  pub reduced_none : {R : Type 0} (h : R → Enclosure) (cells : List R) (size : ℕ) → ReducedTo h cells cells size 0
   reduced_none h cells size = ap₂ (reduce_from B 1) (ap (λ n. n - 1) (count_rows size size (map h cells)) ∙ sym (sub-zero (size - 1))) (sym (left_whole size (map h cells)))
 
   -- one step more
-  pub reduced_more : {R : Type 0} (h : R → Box) (old cells new : List R) (size c : ℕ) → c < size - 1 → Ok (rows_left size (c + 1) (map h new)) ≡ reduce_step B (c + 1) (rows_left size c (map h cells))
+  pub reduced_more : {R : Type 0} (h : R → Enclosure) (old cells new : List R) (size c : ℕ) → c < size - 1 → Ok (rows_left size (c + 1) (map h new)) ≡ reduce_step B (c + 1) (rows_left size c (map h cells))
       → ReducedTo h old cells size c → ReducedTo h old new size (c + 1)
   reduced_more h old cells new size c l step k =
       let m : size - 1 - c ≡ suc (size - 1 - (c + 1)) = omega arith in
@@ -94,7 +94,7 @@ module _ (B : Boxes) where
       ∙ ap (λ n. reduce_from B n (size - 1 - (c + 1)) (rows_left size (c + 1) (map h new))) (sym (add-one (c + 1)))
 
   -- a step that fails
-  pub reduced_err : {R : Type 0} (h : R → Box) (old cells : List R) (size c : ℕ) (e : Failure) → c < size - 1 → Err e ≡ reduce_step B (c + 1) (rows_left size c (map h cells))
+  pub reduced_err : {R : Type 0} (h : R → Enclosure) (old cells : List R) (size c : ℕ) (e : Failure) → c < size - 1 → Err e ≡ reduce_step B (c + 1) (rows_left size c (map h cells))
       → ReducedTo h old cells size c → reduce B (rows_of size size (map h old)) ≡ Err e
   reduced_err h old cells size c e l step k =
       let m : size - 1 - c ≡ suc (size - 1 - (c + 1)) = omega arith in
@@ -103,7 +103,7 @@ module _ (B : Boxes) where
       ∙ ap (λ smaller. bind smaller (λ rows. reduce_from B (suc (c + 1)) (size - 1 - (c + 1)) rows)) (sym step)
 
   -- one row left
-  pub reduced_all : {R : Type 0} (h : R → Box) (old cells : List R) (size c i : ℕ) (x : R) → c ≡ size - 1 → 0 < size → length cells ≡ size * size → i ≡ length cells - 1 → x ≡ get_or cells i x
+  pub reduced_all : {R : Type 0} (h : R → Enclosure) (old cells : List R) (size c i : ℕ) (x : R) → c ≡ size - 1 → 0 < size → length cells ≡ size * size → i ≡ length cells - 1 → x ≡ get_or cells i x
       → ReducedTo h old cells size c → reduce B (rows_of size size (map h old)) ≡ Ok (h x)
   reduced_all h old cells size c i x ec some square ei ex k =
       let last : size ≡ c + 1 = omega arith in

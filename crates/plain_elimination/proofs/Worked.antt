@@ -1,4 +1,4 @@
--- The boxes worked by hand.
+-- The reductions worked by hand.
 use Rattle.std.proofs.Common.{refl}
 use Rattle.plain_elimination.specs.Worked.{WorkedReductions}
 

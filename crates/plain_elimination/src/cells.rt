@@ -1,7 +1,7 @@
 // Where the entries of a matrix lie in its cells, and cells of zeros.
 ghost use Rattle.std.specs.Prelude.{◌≡◌, ◌+◌, ◌*◌, ◌<◌, ◌≤◌, IfOk, length, map, take, drop, replicate, slice_set};
-ghost use Rattle.complex_interval.specs.Rect.{box_of};
-ghost use Rattle.plain_elimination.specs.Matrix.{nought_box};
+ghost use Rattle.complex_interval.specs.Rect.{rectangle_of};
+ghost use Rattle.plain_elimination.specs.Matrix.{nought_rectangle};
 ghost use Rattle.plain_elimination.specs.declared.limits.TheConstants.{MAX_SIZE};
 
 use complex_interval::{Enclosure, Rect};
@@ -20,7 +20,7 @@ pub fn place_of(size: u32, row: u32, column: u32) -> usize
 
 // The interval of zero alone.
 fn nought<E: Enclosure>() -> E
-    ensures { E.ends result ≡ nought_box.re }
+    ensures { E.ends result ≡ nought_rectangle.re }
 {
     match E::from_ends(0, 0) {
         Some(nought) => nought,
@@ -30,7 +30,7 @@ fn nought<E: Enclosure>() -> E
 
 /// This many cells, each with zero.
 pub fn nought_cells<E: Enclosure>(alloc: Global, count: usize) -> Result<Vec<Rect<E>>, AllocError>
-    ensures { IfOk result (λ cells. map (box_of E.ends) cells.items ≡ replicate count nought_box) }
+    ensures { IfOk result (λ cells. map (rectangle_of E.ends) cells.items ≡ replicate count nought_rectangle) }
 {
     let re = nought();
     let mut cells = Vec::new(alloc);
@@ -40,7 +40,7 @@ pub fn nought_cells<E: Enclosure>(alloc: Global, count: usize) -> Result<Vec<Rec
 
 /// Sets each cell to zero.
 pub fn clear_cells<E: Enclosure>(cells: &mut [Rect<E>])
-    ensures { map (box_of E.ends) cells.new ≡ replicate (length cells.old) nought_box }
+    ensures { map (rectangle_of E.ends) cells.new ≡ replicate (length cells.old) nought_rectangle }
 {
     let re = nought();
     let zero = Rect { re, im: re };

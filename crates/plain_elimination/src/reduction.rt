@@ -1,11 +1,11 @@
 // Reduction in place, so that one matrix serves for every box of a scan.
 ghost use Rattle.std.specs.Prelude.{◌≡◌, ◌+◌, ◌-◌, ◌*◌, ◌<◌, ◌≤◌, Ok, IfOk, length, map, drop};
-ghost use Rattle.complex_interval.specs.Rect.{box_of};
+ghost use Rattle.complex_interval.specs.Rect.{rectangle_of};
 ghost use Rattle.plain_elimination.specs.declared.failure.Failure.TheVariants.{OutOfRange};
 ghost use Rattle.plain_elimination.specs.Elimination.{bind, or_fail, split_pivot, later_rows, reduce_step, reduce};
 ghost use Rattle.plain_elimination.specs.Layout.{rows_of, from_column, rows_left};
 ghost use Rattle.plain_elimination.specs.Matrix.{HoldsComplements};
-ghost use Rattle.plain_elimination.specs.Rectangles.{boxes, reduce_boxes};
+ghost use Rattle.plain_elimination.specs.Rectangles.{rectangles, reduce_rectangles};
 ghost use Rattle.plain_elimination.specs.declared.limits.TheConstants.{MAX_SIZE};
 
 use crate::cells::cells_from;
@@ -27,9 +27,9 @@ fn reduce_by<E: Enclosure>(
     requires few_rows { rows ≤ MAX_SIZE }
     requires rows { length later.old ≡ rows * (column + length first.now) }
     ensures { let size = column + length first.now in
-        bind result (λ _. Ok (from_column (column + 1) (rows_of rows size (map (box_of E.ends) later.new))))
-        ≡ bind (split_pivot (boxes E.SCALE) (column + 1) (map (box_of E.ends) first.now)) (λ split.
-        or_fail (OutOfRange (column + 1)) (later_rows (boxes E.SCALE) split.0 split.1 (from_column column (rows_of rows size (map (box_of E.ends) later.old))))) }
+        bind result (λ _. Ok (from_column (column + 1) (rows_of rows size (map (rectangle_of E.ends) later.new))))
+        ≡ bind (split_pivot (rectangles E.SCALE) (column + 1) (map (rectangle_of E.ends) first.now)) (λ split.
+        or_fail (OutOfRange (column + 1)) (later_rows (rectangles E.SCALE) split.0 split.1 (from_column column (rows_of rows size (map (rectangle_of E.ends) later.old))))) }
 {
     let step = column as u32 + 1;
     let pivot = first[0];
@@ -51,8 +51,8 @@ fn reduce_column<E: Enclosure>(
     requires column_in { column < size }
     requires few { size ≤ MAX_SIZE }
     requires square { length cells.old ≡ size * size }
-    ensures { bind result (λ _. Ok (rows_left size (column + 1) (map (box_of E.ends) cells.new)))
-        ≡ reduce_step (boxes E.SCALE) (column + 1) (rows_left size column (map (box_of E.ends) cells.old)) }
+    ensures { bind result (λ _. Ok (rows_left size (column + 1) (map (rectangle_of E.ends) cells.new)))
+        ≡ reduce_step (rectangles E.SCALE) (column + 1) (rows_left size column (map (rectangle_of E.ends) cells.old)) }
 {
     let (done, later) = cells.split_at_mut((column + 1) * size);
     let first = cells_from(done, column * size + column);
@@ -64,8 +64,8 @@ pub fn reduce_cells<E: Enclosure>(cells: &mut [Rect<E>], size: usize) -> Result<
     requires some { 0 < size }
     requires few { size ≤ MAX_SIZE }
     requires square { length cells.old ≡ size * size }
-    ensures { bind result (λ value. Ok (box_of E.ends value))
-        ≡ reduce (boxes E.SCALE) (rows_of size size (map (box_of E.ends) cells.old)) }
+    ensures { bind result (λ value. Ok (rectangle_of E.ends value))
+        ≡ reduce (rectangles E.SCALE) (rows_of size size (map (rectangle_of E.ends) cells.old)) }
 {
     for column in 0..size - 1 {
         reduce_column(cells, size, column)?;
@@ -82,8 +82,8 @@ pub fn reduce_cells<E: Enclosure>(cells: &mut [Rect<E>], size: usize) -> Result<
 /// end is out of range. The matrix keeps its size, and its entries are unspecified afterwards.
 pub fn reduce_to_last<E: Enclosure>(matrix: &mut Matrix<E>) -> Result<Rect<E>, Failure>
     requires { 1 ≤ matrix.old.size }
-    ensures stated { bind result (λ value. Ok (box_of E.ends value)) ≡ reduce_boxes E.SCALE matrix.old.rows }
-    ensures held { IfOk result (λ value. HoldsComplements E.SCALE matrix.old (box_of E.ends value)) }
+    ensures stated { bind result (λ value. Ok (rectangle_of E.ends value)) ≡ reduce_rectangles E.SCALE matrix.old.rows }
+    ensures held { IfOk result (λ value. HoldsComplements E.SCALE matrix.old (rectangle_of E.ends value)) }
     ensures size { matrix.new.size ≡ matrix.old.size }
 {
     let size = matrix.size as usize;

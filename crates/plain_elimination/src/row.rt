@@ -1,10 +1,10 @@
-// One step of the elimination, on the boxes of one row.
+// One step of the elimination, on the rectangles of one row.
 ghost use Rattle.std.specs.Prelude.{◌≡◌, ◌∷◌, length, map};
 ghost use Rattle.std.specs.Option.{option_map};
 ghost use Rattle.complex_interval.specs.Ends.{zero_between};
-ghost use Rattle.complex_interval.specs.Rect.{box_of};
+ghost use Rattle.complex_interval.specs.Rect.{rectangle_of};
 ghost use Rattle.plain_elimination.specs.Elimination.{sweep, later_row, later_line, take_away};
-ghost use Rattle.plain_elimination.specs.Rectangles.{boxes, is_nought};
+ghost use Rattle.plain_elimination.specs.Rectangles.{rectangles, is_nought};
 
 use complex_interval::{Enclosure, Rect};
 
@@ -28,7 +28,7 @@ fn is_nought<E: Enclosure>(x: E) -> bool
 
 /// Zero lies in both parts.
 pub fn holds_zero<E: Enclosure>(x: Rect<E>) -> bool
-    ensures { result ≡ (boxes E.SCALE).holds_zero (box_of E.ends x) }
+    ensures { result ≡ (rectangles E.SCALE).holds_zero (rectangle_of E.ends x) }
 {
     let re = reaches_zero(x.re);
     let im = reaches_zero(x.im);
@@ -37,7 +37,7 @@ pub fn holds_zero<E: Enclosure>(x: Rect<E>) -> bool
 
 /// Zero alone in both parts.
 pub fn is_zero<E: Enclosure>(x: Rect<E>) -> bool
-    ensures { result ≡ (boxes E.SCALE).is_zero (box_of E.ends x) }
+    ensures { result ≡ (rectangles E.SCALE).is_zero (rectangle_of E.ends x) }
 {
     let re = is_nought(x.re);
     let im = is_nought(x.im);
@@ -47,8 +47,8 @@ pub fn is_zero<E: Enclosure>(x: Rect<E>) -> bool
 /// Each entry a of the row becomes a - f a0, a0 the entry of the pivot row in the same place.
 pub fn sweep<E: Enclosure>(f: Rect<E>, first: &[Rect<E>], row: &mut [Rect<E>]) -> Option<()>
     requires { length first.now ≡ length row.old }
-    ensures { option_map (λ _. map (box_of E.ends) row.new) result
-        ≡ sweep (boxes E.SCALE) (box_of E.ends f) (map (box_of E.ends) first.now) (map (box_of E.ends) row.old) }
+    ensures { option_map (λ _. map (rectangle_of E.ends) row.new) result
+        ≡ sweep (rectangles E.SCALE) (rectangle_of E.ends f) (map (rectangle_of E.ends) first.now) (map (rectangle_of E.ends) row.old) }
 {
     for i in 0..row.len() {
         let part = f.mul(first[i])?;
@@ -66,8 +66,8 @@ pub fn eliminate_row<E: Enclosure>(
     row: &mut [Rect<E>],
 ) -> Option<()>
     requires { length first.now ≡ length row.old }
-    ensures { option_map (λ _. map (box_of E.ends) row.new) result
-        ≡ later_row (boxes E.SCALE) (box_of E.ends pivot) (map (box_of E.ends) first.now) (box_of E.ends entry ∷ map (box_of E.ends) row.old) }
+    ensures { option_map (λ _. map (rectangle_of E.ends) row.new) result
+        ≡ later_row (rectangles E.SCALE) (rectangle_of E.ends pivot) (map (rectangle_of E.ends) first.now) (rectangle_of E.ends entry ∷ map (rectangle_of E.ends) row.old) }
 {
     if is_zero(entry) {
         return Some(());
@@ -86,9 +86,9 @@ pub fn eliminate_line<E: Enclosure>(
     right: Rect<E>,
 ) -> Option<Rect<E>>
     requires { length first.now ≡ length row.old }
-    ensures { option_map (λ b. record { left = map (box_of E.ends) row.new; right = box_of E.ends b }) result
-        ≡ later_line (boxes E.SCALE) (box_of E.ends pivot) (map (box_of E.ends) first.now) (box_of E.ends first_right)
-        (box_of E.ends entry ∷ map (box_of E.ends) row.old) (box_of E.ends right) }
+    ensures { option_map (λ b. record { left = map (rectangle_of E.ends) row.new; right = rectangle_of E.ends b }) result
+        ≡ later_line (rectangles E.SCALE) (rectangle_of E.ends pivot) (map (rectangle_of E.ends) first.now) (rectangle_of E.ends first_right)
+        (rectangle_of E.ends entry ∷ map (rectangle_of E.ends) row.old) (rectangle_of E.ends right) }
 {
     if is_zero(entry) {
         return Some(right);
@@ -102,8 +102,8 @@ pub fn eliminate_line<E: Enclosure>(
 /// What is left of a right side: b less each a x, in order.
 pub fn take_away<E: Enclosure>(b: Rect<E>, row: &[Rect<E>], xs: &[Rect<E>]) -> Option<Rect<E>>
     requires { length row.now ≡ length xs.now }
-    ensures { option_map (box_of E.ends) result
-        ≡ take_away (boxes E.SCALE) (box_of E.ends b) (map (box_of E.ends) row.now) (map (box_of E.ends) xs.now) }
+    ensures { option_map (rectangle_of E.ends) result
+        ≡ take_away (rectangles E.SCALE) (rectangle_of E.ends b) (map (rectangle_of E.ends) row.now) (map (rectangle_of E.ends) xs.now) }
 {
     let mut rest = b;
     for i in 0..row.len() {

@@ -1,10 +1,10 @@
 // One step of the elimination, on cells that hold row after row.
 ghost use Rattle.std.specs.Prelude.{◌≡◌, ◌+◌, ◌-◌, ◌*◌, ◌<◌, ◌≤◌, length, map, suc, take, drop};
 ghost use Rattle.std.specs.Option.{option_map};
-ghost use Rattle.complex_interval.specs.Rect.{box_of};
+ghost use Rattle.complex_interval.specs.Rect.{rectangle_of};
 ghost use Rattle.plain_elimination.specs.Elimination.{later_row, later_rows, later_line, later_lines};
 ghost use Rattle.plain_elimination.specs.Layout.{rows_of, from_column, lines_from};
-ghost use Rattle.plain_elimination.specs.Rectangles.{boxes};
+ghost use Rattle.plain_elimination.specs.Rectangles.{rectangles};
 ghost use Rattle.plain_elimination.specs.declared.limits.TheConstants.{MAX_SIZE};
 
 use crate::row::{eliminate_line, eliminate_row};
@@ -18,9 +18,9 @@ fn eliminate_at<E: Enclosure>(
     start: usize,
 ) -> Option<()>
     requires { start + 1 + length first.now ≤ length cells.old }
-    ensures row { option_map (λ _. take (length first.now) (drop (start + 1) (map (box_of E.ends) cells.new))) result
-        ≡ later_row (boxes E.SCALE) (box_of E.ends pivot) (map (box_of E.ends) first.now)
-        (take (suc (length first.now)) (drop start (map (box_of E.ends) cells.old))) }
+    ensures row { option_map (λ _. take (length first.now) (drop (start + 1) (map (rectangle_of E.ends) cells.new))) result
+        ≡ later_row (rectangles E.SCALE) (rectangle_of E.ends pivot) (map (rectangle_of E.ends) first.now)
+        (take (suc (length first.now)) (drop start (map (rectangle_of E.ends) cells.old))) }
     ensures before { take (start + 1) cells.new ≡ take (start + 1) cells.old }
     ensures after { drop (start + 1 + length first.now) cells.new ≡ drop (start + 1 + length first.now) cells.old }
 {
@@ -42,9 +42,9 @@ pub fn eliminate_rows<E: Enclosure>(
     requires few_rows { rows ≤ MAX_SIZE }
     requires rows { length later.old ≡ rows * (column + 1 + length first.now) }
     ensures { let size = column + 1 + length first.now in
-        option_map (λ _. from_column (column + 1) (rows_of rows size (map (box_of E.ends) later.new))) result
-        ≡ later_rows (boxes E.SCALE) (box_of E.ends pivot) (map (box_of E.ends) first.now)
-        (from_column column (rows_of rows size (map (box_of E.ends) later.old))) }
+        option_map (λ _. from_column (column + 1) (rows_of rows size (map (rectangle_of E.ends) later.new))) result
+        ≡ later_rows (rectangles E.SCALE) (rectangle_of E.ends pivot) (map (rectangle_of E.ends) first.now)
+        (from_column column (rows_of rows size (map (rectangle_of E.ends) later.old))) }
 {
     let size = column + 1 + first.len();
     for i in 0..rows {
@@ -63,9 +63,9 @@ fn eliminate_line_at<E: Enclosure>(
     right: Rect<E>,
 ) -> Option<Rect<E>>
     requires { start + 1 + length first.now ≤ length cells.old }
-    ensures line { option_map (λ b. record { left = take (length first.now) (drop (start + 1) (map (box_of E.ends) cells.new)); right = box_of E.ends b }) result
-        ≡ later_line (boxes E.SCALE) (box_of E.ends pivot) (map (box_of E.ends) first.now) (box_of E.ends first_right)
-        (take (suc (length first.now)) (drop start (map (box_of E.ends) cells.old))) (box_of E.ends right) }
+    ensures line { option_map (λ b. record { left = take (length first.now) (drop (start + 1) (map (rectangle_of E.ends) cells.new)); right = rectangle_of E.ends b }) result
+        ≡ later_line (rectangles E.SCALE) (rectangle_of E.ends pivot) (map (rectangle_of E.ends) first.now) (rectangle_of E.ends first_right)
+        (take (suc (length first.now)) (drop start (map (rectangle_of E.ends) cells.old))) (rectangle_of E.ends right) }
     ensures before { take (start + 1) cells.new ≡ take (start + 1) cells.old }
     ensures after { drop (start + 1 + length first.now) cells.new ≡ drop (start + 1 + length first.now) cells.old }
 {
@@ -94,9 +94,9 @@ pub fn eliminate_lines<E: Enclosure>(
     requires few_rows { length right.old ≤ MAX_SIZE }
     requires rows { length later.old ≡ length right.old * (column + 1 + length first.now) }
     ensures { let size = column + 1 + length first.now in
-        option_map (λ _. lines_from (boxes E.SCALE) (column + 1) size (map (box_of E.ends) later.new) (map (box_of E.ends) right.new)) result
-        ≡ later_lines (boxes E.SCALE) (box_of E.ends pivot) (map (box_of E.ends) first.now) (box_of E.ends first_right)
-        (lines_from (boxes E.SCALE) column size (map (box_of E.ends) later.old) (map (box_of E.ends) right.old)) }
+        option_map (λ _. lines_from (rectangles E.SCALE) (column + 1) size (map (rectangle_of E.ends) later.new) (map (rectangle_of E.ends) right.new)) result
+        ≡ later_lines (rectangles E.SCALE) (rectangle_of E.ends pivot) (map (rectangle_of E.ends) first.now) (rectangle_of E.ends first_right)
+        (lines_from (rectangles E.SCALE) column size (map (rectangle_of E.ends) later.old) (map (rectangle_of E.ends) right.old)) }
 {
     let size = column + 1 + first.len();
     for i in 0..right.len() {

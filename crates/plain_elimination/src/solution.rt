@@ -1,12 +1,12 @@
 // Solving in place: the steps of the reduction with the right side beside them, and then the way back.
 ghost use Rattle.std.specs.Prelude.{◌≡◌, ◌+◌, ◌-◌, ◌*◌, ◌<◌, ◌≤◌, ℕ, Ok, OnOk, [], ◌∷◌, suc, length, map, take, drop};
 ghost use Rattle.std.specs.Option.{option_map};
-ghost use Rattle.complex_interval.specs.Rect.{box_of};
+ghost use Rattle.complex_interval.specs.Rect.{rectangle_of};
 ghost use Rattle.plain_elimination.specs.declared.failure.Failure.TheVariants.{OutOfRange};
 ghost use Rattle.plain_elimination.specs.Elimination.{and_then, bind, or_fail, split_pivot, later_lines, take_away, solve_step, solve};
 ghost use Rattle.plain_elimination.specs.Layout.{rows_of, lines_from, lines_left, pivot_row, with_unknown, way_back};
 ghost use Rattle.plain_elimination.specs.Matrix.{HoldsSolutions};
-ghost use Rattle.plain_elimination.specs.Rectangles.{boxes, solve_boxes};
+ghost use Rattle.plain_elimination.specs.Rectangles.{rectangles, solve_rectangles};
 ghost use Rattle.plain_elimination.specs.declared.limits.TheConstants.{MAX_SIZE};
 
 use crate::cells::{cells_from, cells_up_to, set_cell};
@@ -30,10 +30,10 @@ fn solve_by<E: Enclosure>(
     requires few_rows { length right.old ≤ MAX_SIZE }
     requires rows { length later.old ≡ length right.old * (column + length first.now) }
     ensures { let size = column + length first.now in
-        bind result (λ _. Ok (lines_from (boxes E.SCALE) (column + 1) size (map (box_of E.ends) later.new) (map (box_of E.ends) right.new)))
-        ≡ bind (split_pivot (boxes E.SCALE) (column + 1) (map (box_of E.ends) first.now)) (λ split.
-        or_fail (OutOfRange (column + 1)) (later_lines (boxes E.SCALE) split.0 split.1 (box_of E.ends first_right)
-        (lines_from (boxes E.SCALE) column size (map (box_of E.ends) later.old) (map (box_of E.ends) right.old)))) }
+        bind result (λ _. Ok (lines_from (rectangles E.SCALE) (column + 1) size (map (rectangle_of E.ends) later.new) (map (rectangle_of E.ends) right.new)))
+        ≡ bind (split_pivot (rectangles E.SCALE) (column + 1) (map (rectangle_of E.ends) first.now)) (λ split.
+        or_fail (OutOfRange (column + 1)) (later_lines (rectangles E.SCALE) split.0 split.1 (rectangle_of E.ends first_right)
+        (lines_from (rectangles E.SCALE) column size (map (rectangle_of E.ends) later.old) (map (rectangle_of E.ends) right.old)))) }
 {
     let step = column as u32 + 1;
     let pivot = first[0];
@@ -64,8 +64,8 @@ fn solve_column<E: Enclosure>(
     requires few { size ≤ MAX_SIZE }
     requires square { length cells.old ≡ size * size }
     requires sides { length right.old ≡ size }
-    ensures step { bind result (λ _. Ok (lines_left (boxes E.SCALE) size (column + 1) (map (box_of E.ends) cells.new) (map (box_of E.ends) right.new)))
-        ≡ solve_step (boxes E.SCALE) (column + 1) (lines_left (boxes E.SCALE) size column (map (box_of E.ends) cells.old) (map (box_of E.ends) right.old)) }
+    ensures step { bind result (λ _. Ok (lines_left (rectangles E.SCALE) size (column + 1) (map (rectangle_of E.ends) cells.new) (map (rectangle_of E.ends) right.new)))
+        ≡ solve_step (rectangles E.SCALE) (column + 1) (lines_left (rectangles E.SCALE) size column (map (rectangle_of E.ends) cells.old) (map (rectangle_of E.ends) right.old)) }
     ensures rows_kept { take ((column + 1) * size) cells.new ≡ take ((column + 1) * size) cells.old }
     ensures sides_kept { take (column + 1) right.new ≡ take (column + 1) right.old }
 {
@@ -85,8 +85,8 @@ fn eliminate_system<E: Enclosure>(
     requires few { size ≤ MAX_SIZE }
     requires square { length cells.old ≡ size * size }
     requires sides { length right.old ≡ size }
-    ensures { bind result (λ _. way_back (boxes E.SCALE) size size (map (box_of E.ends) cells.new) (map (box_of E.ends) right.new) (Ok []))
-        ≡ solve (boxes E.SCALE) (rows_of size size (map (box_of E.ends) cells.old)) (map (box_of E.ends) right.old) }
+    ensures { bind result (λ _. way_back (rectangles E.SCALE) size size (map (rectangle_of E.ends) cells.new) (map (rectangle_of E.ends) right.new) (Ok []))
+        ≡ solve (rectangles E.SCALE) (rows_of size size (map (rectangle_of E.ends) cells.old)) (map (rectangle_of E.ends) right.old) }
 {
     for column in 0..size {
         solve_column(cells, right, size, column)?;
@@ -102,9 +102,9 @@ fn unknown_of<E: Enclosure>(
     xs: &[Rect<E>],
 ) -> Option<Rect<E>>
     requires { length first.now ≡ length xs.now }
-    ensures { option_map (box_of E.ends) result
-        ≡ and_then (take_away (boxes E.SCALE) (box_of E.ends b) (map (box_of E.ends) first.now) (map (box_of E.ends) xs.now))
-        (λ d. (boxes E.SCALE).div d (box_of E.ends pivot)) }
+    ensures { option_map (rectangle_of E.ends) result
+        ≡ and_then (take_away (rectangles E.SCALE) (rectangle_of E.ends b) (map (rectangle_of E.ends) first.now) (map (rectangle_of E.ends) xs.now))
+        (λ d. (rectangles E.SCALE).div d (rectangle_of E.ends pivot)) }
 {
     take_away(b, first, xs)?.div(pivot)
 }
@@ -112,8 +112,8 @@ fn unknown_of<E: Enclosure>(
 // The unknown of a row, by its entries from the pivot on.
 fn unknown_of_line<E: Enclosure>(line: &[Rect<E>], b: Rect<E>, xs: &[Rect<E>]) -> Option<Rect<E>>
     requires { length line.now ≡ suc (length xs.now) }
-    ensures { (step : ℕ) → with_unknown (boxes E.SCALE) step (map (box_of E.ends) line.now) (box_of E.ends b ∷ []) (map (box_of E.ends) xs.now)
-        ≡ bind (or_fail (OutOfRange step) (option_map (box_of E.ends) result)) (λ x. Ok (x ∷ map (box_of E.ends) xs.now)) }
+    ensures { (step : ℕ) → with_unknown (rectangles E.SCALE) step (map (rectangle_of E.ends) line.now) (rectangle_of E.ends b ∷ []) (map (rectangle_of E.ends) xs.now)
+        ≡ bind (or_fail (OutOfRange step) (option_map (rectangle_of E.ends) result)) (λ x. Ok (x ∷ map (rectangle_of E.ends) xs.now)) }
 {
     unknown_of(line[0], cells_from(line, 1), b, xs)
 }
@@ -129,9 +129,9 @@ fn solve_row<E: Enclosure>(
     requires few { size ≤ MAX_SIZE }
     requires square { length cells.now ≡ size * size }
     requires sides { length right.old ≡ size }
-    ensures unknown { bind result (λ _. Ok (drop row (map (box_of E.ends) right.new)))
-        ≡ with_unknown (boxes E.SCALE) (row + 1) (pivot_row size row (map (box_of E.ends) cells.now))
-        (drop row (take (row + 1) (map (box_of E.ends) right.old))) (drop (row + 1) (map (box_of E.ends) right.old)) }
+    ensures unknown { bind result (λ _. Ok (drop row (map (rectangle_of E.ends) right.new)))
+        ≡ with_unknown (rectangles E.SCALE) (row + 1) (pivot_row size row (map (rectangle_of E.ends) cells.now))
+        (drop row (take (row + 1) (map (rectangle_of E.ends) right.old))) (drop (row + 1) (map (rectangle_of E.ends) right.old)) }
     ensures kept { take row right.new ≡ take row right.old }
 {
     let done = cells_up_to(cells, (row + 1) * size);
@@ -155,8 +155,8 @@ fn substitute_back<E: Enclosure>(
     requires few { size ≤ MAX_SIZE }
     requires square { length cells.now ≡ size * size }
     requires sides { length right.old ≡ size }
-    ensures { bind result (λ _. Ok (map (box_of E.ends) right.new))
-        ≡ way_back (boxes E.SCALE) size size (map (box_of E.ends) cells.now) (map (box_of E.ends) right.old) (Ok []) }
+    ensures { bind result (λ _. Ok (map (rectangle_of E.ends) right.new))
+        ≡ way_back (rectangles E.SCALE) size size (map (rectangle_of E.ends) cells.now) (map (rectangle_of E.ends) right.old) (Ok []) }
 {
     for row in (0..size).rev() {
         solve_row(cells, right, size, row)?;
@@ -174,8 +174,8 @@ pub fn solve_cells<E: Enclosure>(
     requires few { size ≤ MAX_SIZE }
     requires square { length cells.old ≡ size * size }
     requires sides { length right.old ≡ size }
-    ensures { bind result (λ _. Ok (map (box_of E.ends) right.new))
-        ≡ solve (boxes E.SCALE) (rows_of size size (map (box_of E.ends) cells.old)) (map (box_of E.ends) right.old) }
+    ensures { bind result (λ _. Ok (map (rectangle_of E.ends) right.new))
+        ≡ solve (rectangles E.SCALE) (rows_of size size (map (rectangle_of E.ends) cells.old)) (map (rectangle_of E.ends) right.old) }
 {
     eliminate_system(cells, right, size)?;
     substitute_back(cells, right, size)
@@ -190,7 +190,7 @@ pub fn solve_cells<E: Enclosure>(
 pub fn solve<E: Enclosure>(matrix: &mut Matrix<E>, right: &mut Column<E>) -> Result<(), Failure>
     requires some { 1 ≤ matrix.old.size }
     requires sizes { length right.old ≡ matrix.old.size }
-    ensures stated { bind result (λ _. Ok right.new) ≡ solve_boxes E.SCALE matrix.old.rows right.old }
+    ensures stated { bind result (λ _. Ok right.new) ≡ solve_rectangles E.SCALE matrix.old.rows right.old }
     ensures held { OnOk result (HoldsSolutions E.SCALE matrix.old right.old right.new) }
     ensures size { matrix.new.size ≡ matrix.old.size }
     ensures right_size { length right.new ≡ length right.old }

@@ -1,4 +1,4 @@
-use Rattle.std.proofs.Common.{sym, subst, pos, ◌<ℤ◌}
+use Rattle.std.proofs.Common.{sym, subst, pos, ◌<ℤ◌, arith}
 use Rattle.exact_fraction.specs.Fraction.{ratio_of}
 use Rattle.complex_interval.specs.Ends.{Ends, Encloses, range_ends}
 use Rattle.network_theory.specs.Order.{fraction}

@@ -1,6 +1,6 @@
 use Rattle.std.proofs.Common.{Ok, length, sym, ap, ◌∙◌, map}
 use Rattle.std.proofs.lemmas.List.{map-append}
-use Rattle.complex_interval.specs.Rect.{box_of}
+use Rattle.complex_interval.specs.Rect.{rectangle_of}
 use Rattle.middle_inverse.specs.Inverse.{bind}
 use Rattle.middle_inverse.proofs.Steps.{column_apart}
 use Rattle.middle_inverse.proofs.Wide.{wide_front, wide_back, wide_both}
@@ -8,11 +8,11 @@ use Rattle.middle_inverse.proofs.columns.eliminate_column.Goals as goal
 
 pub returns : goal.returns
 returns g c =
-    let box = box_of g.E.Enclosure.ends in
+    let rectangle = rectangle_of g.E.Enclosure.ends in
     let parts = c.split_at_mut-above.ensures in
-    let whole = column_apart (λ r. map box r.items) g.E.Enclosure.SCALE c.args.column c.args.rows.now c.split_at_mut-above.result.0.now c.split_at_mut-above.result.1.now parts.front parts.back in
+    let whole = column_apart (λ r. map rectangle r.items) g.E.Enclosure.SCALE c.args.column c.args.rows.now c.split_at_mut-above.result.0.now c.split_at_mut-above.result.1.now parts.front parts.back in
     record {
-      value = ap (λ rows. bind c.step_rest.result (λ _. Ok rows)) (map-append (λ r. map box r.items) c.step_rest.new.above c.step_rest.new.rest) ∙ c.step_rest.ensures.value ∙ sym whole;
+      value = ap (λ rows. bind c.step_rest.result (λ _. Ok rows)) (map-append (λ r. map rectangle r.items) c.step_rest.new.above c.step_rest.new.rest) ∙ c.step_rest.ensures.value ∙ sym whole;
       wide = λ w all. wide_both (λ r. length r.items) w c.step_rest.new.above c.step_rest.new.rest
           (c.step_rest.ensures.wide_above w (wide_front (λ r. length r.items) w c.args.rows.now c.split_at_mut-above.result.0.now c.args.column parts.front all))
           (c.step_rest.ensures.wide_rest w (wide_back (λ r. length r.items) w c.args.rows.now c.split_at_mut-above.result.1.now c.args.column parts.back all));

@@ -1,16 +1,16 @@
 use Rattle.std.proofs.Common.{sym, arith}
-use Rattle.complex_interval.specs.Rect.{box_of}
+use Rattle.complex_interval.specs.Rect.{rectangle_of}
 use Rattle.middle_inverse.specs.Inverse.{point_quotient}
 use Rattle.middle_inverse.proofs.Each.{each_more, each_none}
 use Rattle.middle_inverse.proofs.rows.divide_row.Goals as goal
 
 pub returns-in_err-row : goal.returns-in_err-row
 returns-in_err-row g c =
-    let box = box_of g.E.Enclosure.ends in
-    let none = each_none box (λ a. point_quotient g.E.Enclosure.SCALE a (box c.args.pivot)) c.args.row.now c.loop-i.row c.loop-i.i c.index-row-i.result (omega arith) c.index-row-i.is c.in_err-row.ensures c.loop-i.invariant in
+    let rectangle = rectangle_of g.E.Enclosure.ends in
+    let none = each_none rectangle (λ a. point_quotient g.E.Enclosure.SCALE a (rectangle c.args.pivot)) c.args.row.now c.loop-i.row c.loop-i.i c.index-row-i.result (omega arith) c.index-row-i.is c.in_err-row.ensures c.loop-i.invariant in
     rw c.from_residual.ensures (sym none)
 
 pub loop-i-preserved : goal.loop-i-preserved
 loop-i-preserved g c =
-    let box = box_of g.E.Enclosure.ends in
-    each_more box (λ a. point_quotient g.E.Enclosure.SCALE a (box c.args.pivot)) c.args.row.now c.loop-i.row c.loop-i.i c.index-row-i.result c.in_ok-row.field-0 (omega arith) c.index-row-i.is c.in_ok-row.ensures c.loop-i.invariant
+    let rectangle = rectangle_of g.E.Enclosure.ends in
+    each_more rectangle (λ a. point_quotient g.E.Enclosure.SCALE a (rectangle c.args.pivot)) c.args.row.now c.loop-i.row c.loop-i.i c.index-row-i.result c.in_ok-row.field-0 (omega arith) c.index-row-i.is c.in_ok-row.ensures c.loop-i.invariant

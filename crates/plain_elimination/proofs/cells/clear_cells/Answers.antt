@@ -1,8 +1,8 @@
 use Rattle.std.proofs.Common.{◌≡◌, ◌<◌, ◌∙◌, ℕ, suc, List, [], ◌∷◌, length, map, get_or, refl, ap, ap₂, arith}
 use Rattle.std.specs.Prelude.{replicate}
-use Rattle.complex_interval.specs.Rect.{box_of}
+use Rattle.complex_interval.specs.Rect.{rectangle_of}
 use Rattle.complex_interval.specs.declared.rect.Rect.{Rect}
-use Rattle.plain_elimination.specs.Matrix.{nought_box}
+use Rattle.plain_elimination.specs.Matrix.{nought_rectangle}
 use Rattle.plain_elimination.proofs.cells.clear_cells.Goals as goal
 
 -- a list whose items are all mapped to one value
@@ -14,4 +14,4 @@ pub returns : goal.returns
 returns g c =
     let zero : Rect _ = record { re = c.nought-re.result; im = c.nought-re.result } in
     let same : length c.loop-cell.cells ≡ length c.args.cells.now = omega arith in
-    same_items (box_of g.E.Enclosure.ends) c.loop-cell.cells zero nought_box (λ k l. c.loop-cell.invariant k (omega arith)) ∙ ap (λ n. replicate n nought_box) same
+    same_items (rectangle_of g.E.Enclosure.ends) c.loop-cell.cells zero nought_rectangle (λ k l. c.loop-cell.invariant k (omega arith)) ∙ ap (λ n. replicate n nought_rectangle) same

@@ -1,6 +1,6 @@
 use Rattle.std.proofs.Common.{◌≡◌, ◌+◌, ◌-◌, ◌*◌, length, sym, ap, ◌∙◌, arith}
-use Rattle.complex_interval.specs.Rect.{box_of}
-use Rattle.plain_elimination.specs.Rectangles.{boxes}
+use Rattle.complex_interval.specs.Rect.{rectangle_of}
+use Rattle.plain_elimination.specs.Rectangles.{rectangles}
 use Rattle.plain_elimination.proofs.Left.{cells_behind, first_size, column_done}
 use Rattle.plain_elimination.proofs.reduction.reduce_column.Goals as goal
 
@@ -17,4 +17,4 @@ pub returns : goal.returns
 returns g c =
     let parts = c.split_at_mut-done.ensures in
     let width : c.args.column + length c.cells_from-first.result.now ≡ c.args.size = first_size c.args.column c.args.size c.args.cells.now _ _ c.requires.column_in c.requires.square parts.front c.cells_from-first.ensures in
-    column_done (boxes g.E.Enclosure.SCALE) (box_of g.E.Enclosure.ends) c.reduce_by.result c.args.column c.args.size _ c.args.cells.now _ _ c.reduce_by.new.later _ c.requires.column_in c.requires.square width parts.front parts.back c.cells_from-first.ensures c.reduce_by.ensures
+    column_done (rectangles g.E.Enclosure.SCALE) (rectangle_of g.E.Enclosure.ends) c.reduce_by.result c.args.column c.args.size _ c.args.cells.now _ _ c.reduce_by.new.later _ c.requires.column_in c.requires.square width parts.front parts.back c.cells_from-first.ensures c.reduce_by.ensures

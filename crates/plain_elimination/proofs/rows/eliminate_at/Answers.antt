@@ -1,23 +1,23 @@
 use Rattle.std.proofs.Common.{◌+◌, ◌-◌, length, ap, sym, ◌∙◌, arith}
 use Rattle.std.specs.Option.{option_map}
 use Rattle.std.proofs.lemmas.Slice.{drop-put_mid}
-use Rattle.complex_interval.specs.Rect.{box_of}
+use Rattle.complex_interval.specs.Rect.{rectangle_of}
 use Rattle.plain_elimination.specs.Elimination.{later_row}
-use Rattle.plain_elimination.specs.Rectangles.{boxes}
+use Rattle.plain_elimination.specs.Rectangles.{rectangles}
 use Rattle.plain_elimination.proofs.Layouts.{part_new, part_old}
 use Rattle.std.proofs.Common.{map}
 use Rattle.plain_elimination.proofs.rows.eliminate_at.Goals as goal
 
 pub returns-clause-row : goal.returns-clause-row
 returns-clause-row g c =
-    let box = box_of g.E.Enclosure.ends in
+    let rectangle = rectangle_of g.E.Enclosure.ends in
     let n = length c.args.first.now in
     let s = c.args.start in
-    let new = part_new box c.args.cells.now c.eliminate_row.new.row (s + 1) n (s + 1 + n - (s + 1)) (omega arith) (omega arith) (omega arith) in
-    let old = part_old box c.args.cells.now s n (s + 1 + n - (s + 1)) c.index-cells-start.result (omega arith) c.index-cells-start.is (omega arith) in
+    let new = part_new rectangle c.args.cells.now c.eliminate_row.new.row (s + 1) n (s + 1 + n - (s + 1)) (omega arith) (omega arith) (omega arith) in
+    let old = part_old rectangle c.args.cells.now s n (s + 1 + n - (s + 1)) c.index-cells-start.result (omega arith) c.index-cells-start.is (omega arith) in
     ap (λ row. option_map (λ _. row) c.eliminate_row.result) new
     ∙ c.eliminate_row.ensures
-    ∙ sym (ap (later_row (boxes g.E.Enclosure.SCALE) (box c.args.pivot) (map box c.args.first.now)) old)
+    ∙ sym (ap (later_row (rectangles g.E.Enclosure.SCALE) (rectangle c.args.pivot) (map rectangle c.args.first.now)) old)
 
 pub returns-clause-after : goal.returns-clause-after
 returns-clause-after g c =

@@ -1,6 +1,6 @@
 use Rattle.std.proofs.Common.{◌≡◌, ◌+◌, ◌-◌, ◌*◌, length, sym, ap₂, ◌∙◌, arith}
-use Rattle.complex_interval.specs.Rect.{box_of}
-use Rattle.plain_elimination.specs.Rectangles.{boxes}
+use Rattle.complex_interval.specs.Rect.{rectangle_of}
+use Rattle.plain_elimination.specs.Rectangles.{rectangles}
 use Rattle.plain_elimination.proofs.Left.{cells_behind, first_size}
 use Rattle.plain_elimination.proofs.Systems.{lines_done}
 use Rattle.plain_elimination.proofs.solution.solve_column.Goals as goal
@@ -20,5 +20,5 @@ returns-clause-step g c =
     let parts = c.split_at_mut-done.ensures in
     let sides = c.split_at_mut-later_right.ensures in
     let width : c.args.column + length c.cells_from-first.result.now ≡ c.args.size = first_size c.args.column c.args.size c.args.cells.now _ _ c.requires.column_in c.requires.square parts.front c.cells_from-first.ensures in
-    lines_done (boxes g.E.Enclosure.SCALE) (box_of g.E.Enclosure.ends) c.solve_by.result c.args.column c.args.size _ c.args.cells.now _ _ c.solve_by.new.later _ c.args.right.now _ _ c.solve_by.new.right c.index-right-column.result
+    lines_done (rectangles g.E.Enclosure.SCALE) (rectangle_of g.E.Enclosure.ends) c.solve_by.result c.args.column c.args.size _ c.args.cells.now _ _ c.solve_by.new.later _ c.args.right.now _ _ c.solve_by.new.right c.index-right-column.result
     c.requires.column_in c.requires.square width c.requires.sides c.solve_by.auto.right c.index-right-column.is parts.front parts.back c.cells_from-first.ensures sides.front sides.back c.solve_by.ensures

@@ -2,7 +2,7 @@ use Rattle.std.proofs.Common.{◌≡◌, ◌+◌, Ok, length, drop, map, sym, ap
 use Rattle.std.specs.List.{All}
 use Rattle.std.specs.Vec.{with_items}
 use Rattle.std.proofs.lemmas.List.{with_items_is}
-use Rattle.complex_interval.specs.Rect.{box_of}
+use Rattle.complex_interval.specs.Rect.{rectangle_of}
 use Rattle.plain_elimination.specs.Matrix.{Square}
 use Rattle.middle_inverse.specs.Inverse.{bind}
 use Rattle.middle_inverse.proofs.bench.MiddleInverse.invert.Goals as goal
@@ -22,12 +22,12 @@ invariant_of-self g c =
 
 pub returns-clause-value : goal.returns-clause-value
 returns-clause-value g c =
-    let box = box_of g.E.Enclosure.ends in
+    let rectangle = rectangle_of g.E.Enclosure.ends in
     let inside = c.self.inside in
     let new = c.invert_rows.new.rows in
     let size : inside.size ≡ c.args.self.now.size = ap (λ (m : Square). m.size) c.self.view_is in
     let same : inside.size ≡ c.args.matrix.now.size = size ∙ c.requires in
     let kept : (with_items inside.rows new).items ≡ new = with_items_is inside.rows new (omega (arith, c.invert_rows.auto.rows, ap length c.as_mut_slice.ensures.value, inside.rows.ok.0)) in
-    ap (λ items. bind c.invert_rows.result (λ _. Ok (map (λ row. drop inside.size row) (map (λ r. map box r.items) items)))) kept
-    ∙ ap (λ n. bind c.invert_rows.result (λ _. Ok (map (λ row. drop n row) (map (λ r. map box r.items) new)))) same
+    ap (λ items. bind c.invert_rows.result (λ _. Ok (map (λ row. drop inside.size row) (map (λ r. map rectangle r.items) items)))) kept
+    ∙ ap (λ n. bind c.invert_rows.result (λ _. Ok (map (λ row. drop n row) (map (λ r. map rectangle r.items) new)))) same
     ∙ c.invert_rows.ensures.value
