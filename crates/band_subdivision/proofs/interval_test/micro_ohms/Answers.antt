@@ -1,4 +1,4 @@
-use Rattle.std.proofs.Common.{◌≤◌, ◌*◌, ◌∙◌, ap, pos, arith}
+use Rattle.std.proofs.Common.{◌≤◌, ◌*◌, ◌∙◌, ap, pos, arith, ◌^◌}
 use Rattle.band_subdivision.proofs.TestSteps.{ohms_fit, kv_fits, ohms_are, passed}
 use Rattle.band_subdivision.proofs.interval_test.micro_ohms.Goals as goal
 
