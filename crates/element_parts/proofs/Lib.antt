@@ -1,4 +1,6 @@
 pub mod Values
-pub mod PlainLaws
+pub mod Numbers
 pub mod PlainElements
-pub mod SmallBranches
+pub mod SmallValues
+pub mod Sound
+pub mod Adding

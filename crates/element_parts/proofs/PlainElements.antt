@@ -45,10 +45,6 @@ uncoupled_by (ExactCoupled3 place c) b e h g = absurd h
 pub uncoupled : (nodes : ℕ) (b : ExactBranch) → IsPlainBranch nodes b → IsUncoupled b
 uncoupled nodes b h = uncoupled_by b.law b refl h.law h.group
 
-pub all_uncoupled : (nodes : ℕ) (bs : List ExactBranch) → ArePlain nodes bs → AllByRecursion IsUncoupled bs
-all_uncoupled nodes [] h = tt
-all_uncoupled nodes (b ∷ bs) h = (uncoupled nodes b h.0, all_uncoupled nodes bs h.1)
-
 grouped : (nodes : ℕ) (bs : List ExactBranch) → ArePlain nodes bs → IsGrouped bs
 grouped nodes [] h = done
 grouped nodes (b ∷ bs) h = alone b bs (uncoupled nodes b h.0) (grouped nodes bs h.1)

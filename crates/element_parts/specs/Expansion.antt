@@ -1,9 +1,10 @@
 -- What elements add to a network: inner nodes and branches.
-use Rattle.std.specs.Prelude.{ℕ, ◌+◌, pos, negsuc, nat_lt, Bool, true, false, ◌||◌, List, [], ◌∷◌, ◌++◌, map, length}
+use Rattle.std.specs.Prelude.{ℕ, ◌+◌, ℤ, pos, negsuc, nat_lt, Bool, true, false, ◌||◌, List, [], ◌∷◌, ◌++◌, map, length}
 use Rattle.exact_algebra.specs.Ratio.{Ratio, whole}
 use Rattle.network_theory.specs.Branch.{Law, Series, Branch}
 use Rattle.network_theory.specs.Network.{Network}
 use Rattle.net_branch.specs.declared.limits.TheConstants.{MAX_NODES, MAX_BRANCHES}
+use Rattle.element_parts.specs.PerUnit.{as_written}
 
 -- The inner nodes that an element adds, and its branches in order.
 pub record Expansion : Type 0 where
@@ -29,6 +30,10 @@ between a b law owner = record { taps = record { node = a; ratio = whole (pos 1)
 -- a resistance and a reactance in series, with no skin coefficients: k is 0 and m is 1
 abbrev pub series : Ratio → Ratio → Law
 series r x = Series r (whole (pos 0)) (whole (pos 1)) x (whole (pos 0))
+
+-- the same with the skin coefficients of an element
+abbrev pub skin_series : Ratio → ℤ → ℤ → Ratio → Law
+skin_series r k m x = Series r (as_written k) (as_written m) x (whole (pos 0))
 
 -- an element that adds nothing
 abbrev pub open_circuit : Expansion

@@ -2,4 +2,5 @@ pub mod PerUnit
 pub mod Small
 pub mod Plain
 pub mod Expansion
+pub mod Adds
 pub mod Parts

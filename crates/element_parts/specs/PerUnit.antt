@@ -1,5 +1,5 @@
 -- Exact values in per unit. Each argument is the whole number of millionths of a decimal, in the unit that the comment names.
-use Rattle.std.specs.Prelude.{ℕ, ℤ, pos, ◌*◌, ◌^◌, ◌*ℤ◌, ◌-ℤ◌, unsigned_abs, List, slice_get, Option, Some, None}
+use Rattle.std.specs.Prelude.{ℕ, ℤ, pos, ◌*◌, ◌^◌, ◌*ℤ◌, unsigned_abs, List, slice_get, Option, Some, None}
 use Rattle.exact_algebra.specs.Ratio.{Ratio, over}
 use Rattle.study_model.specs.declared.records.Bus.{Bus}
 

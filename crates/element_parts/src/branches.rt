@@ -1,12 +1,8 @@
 // Branches with one tap or two, which is all that balanced networks have.
-ghost use Rattle.std.specs.Prelude.{◌≡◌, pos, IfOk};
+ghost use Rattle.std.specs.Prelude.{◌≡◌, IfOk};
 ghost use Rattle.exact_fraction.specs.Fraction.{ratio_of};
 ghost use Rattle.net_branch.specs.Exact.{exact_law, exact_branch};
-ghost use Rattle.exact_algebra.specs.Ratio.{whole};
-ghost use Rattle.network_theory.specs.Branch.{Series};
-ghost use Rattle.element_parts.specs.PerUnit.{as_written};
-ghost use Rattle.element_parts.specs.Expansion.{to_ground, between, series};
-ghost use Rattle.element_parts.specs.Small.{IsSmall, IsSmallLaw};
+ghost use Rattle.element_parts.specs.Expansion.{to_ground, between, series, skin_series};
 
 use crate::per_unit::{as_written, zero};
 use exact_fraction::Fraction;
@@ -18,8 +14,7 @@ use std::alloc::{AllocError, Global};
 /// A resistance and a reactance in series, in per unit, with no skin coefficients: k is 0 and m is 1.
 #[tactic(auto, unfolding(exact_algebra::specs::Ratio::whole))]
 pub fn series(r: Fraction, x: Fraction) -> Law
-    ensures value { exact_law result ≡ series (ratio_of r) (ratio_of x) }
-    ensures small { IsSmall (ratio_of r) → IsSmall (ratio_of x) → IsSmallLaw (exact_law result) }
+    ensures { exact_law result ≡ series (ratio_of r) (ratio_of x) }
 {
     Law::Series {
         r,
@@ -32,8 +27,7 @@ pub fn series(r: Fraction, x: Fraction) -> Law
 
 /// A resistance and a reactance in series, in per unit, with the skin coefficients of an element.
 pub fn skin_series(r: Fraction, skin_k: Decimal, skin_m: Decimal, x: Fraction) -> Law
-    ensures value { exact_law result ≡ Series (ratio_of r) (as_written skin_k) (as_written skin_m) (ratio_of x) (whole (pos 0)) }
-    ensures small { IsSmall (ratio_of r) → IsSmall (ratio_of x) → IsSmallLaw (exact_law result) }
+    ensures { exact_law result ≡ skin_series (ratio_of r) skin_k skin_m (ratio_of x) }
 {
     Law::Series {
         r,

@@ -1,14 +1,14 @@
-// What elements add to a network, and the adding of those whose branches stand alone.
-ghost use Rattle.std.specs.Prelude.{◌≡◌, ◌≢◌, ◌+◌, map, IsTrue, IsFalse, IfErr, OnOk, OnErr};
-ghost use Rattle.net_branch.specs.Exact.{exact_branch, exact_network};
+// What an element adds to a network: it is built first and added whole, so that a refusal leaves nothing behind.
+ghost use Rattle.std.specs.Prelude.{◌≡◌, ◌+◌, IfOk};
 ghost use Rattle.net_branch.specs.Whole.{IsWholeNetwork};
-ghost use Rattle.net_branch.specs.declared.fault.AddFault.TheVariants.{NoMemory};
-ghost use Rattle.element_parts.specs.Expansion.{with_element, is_too_large};
+ghost use Rattle.element_parts.specs.Adds.{Adds};
+ghost use Rattle.element_parts.specs.Expansion.{Expansion, open_circuit};
+ghost use Rattle.element_parts.specs.Parts.{exact_parts};
 ghost use Rattle.element_parts.specs.Plain.{ArePlain};
 
 use net_branch::{AddFault, Branch, Network, append_element};
 use sqlite_items::Items;
-use std::alloc::Global;
+use std::alloc::{AllocError, Global};
 
 /// What an element adds to a network: so many inner nodes, and its branches in order.
 #[derive(Drop)]
@@ -17,22 +17,29 @@ pub struct Parts {
     pub branches: Items<Branch>,
 }
 
-/// Adds an element of so many inner nodes and these uncoupled branches. `TooMany` exactly where the network would have more than
-/// `MAX_NODES` nodes or more than `MAX_BRANCHES` branches. A refusal leaves the network as it was.
-#[tactic(auto, using(crate::proofs::PlainElements::plain_element))]
+/// What an element adds that isn't in a network: nothing.
+pub fn open_circuit(alloc: Global) -> Parts
+    ensures { exact_parts result ≡ open_circuit }
+{
+    Parts {
+        inner: 0,
+        branches: Items::new(alloc),
+    }
+}
+
+/// Adds what was built of an element, whose branches are uncoupled; `NoMemory` where there was none to build it. `TooMany` exactly where the
+/// network would have more than `MAX_NODES` nodes or more than `MAX_BRANCHES` branches. A refusal leaves the network as it was.
 pub fn add_plain(
     alloc: Global,
     network: &mut Network,
-    inner: u32,
-    branches: Items<Branch>,
+    parts: Result<Parts, AllocError>,
 ) -> Result<(), AddFault>
     requires whole { IsWholeNetwork network.old }
-    requires plain { ArePlain (network.old.nodes + inner) (map exact_branch branches) }
-    ensures appended { OnOk result (exact_network network.new ≡ with_element (exact_network network.old) (record { inner = inner; branches = map exact_branch branches })) }
-    ensures fits { OnOk result (IsFalse (is_too_large (with_element (exact_network network.old) (record { inner = inner; branches = map exact_branch branches })))) }
-    ensures too_many { IfErr result (λ fault. fault ≢ NoMemory → IsTrue (is_too_large (with_element (exact_network network.old) (record { inner = inner; branches = map exact_branch branches })))) }
-    ensures unchanged { OnErr result (network.new ≡ network.old) }
-    ensures whole { IsWholeNetwork network.new }
+    requires plain { IfOk parts (λ parts. ArePlain (network.old.nodes + parts.inner) (exact_parts parts).branches) }
+    ensures { (expansion : Expansion) → IfOk parts (λ parts. exact_parts parts ≡ expansion) → Adds network.old network.new result expansion }
 {
-    append_element(alloc, network, inner, branches)
+    let Ok(parts) = parts else {
+        return Err(AddFault::NoMemory);
+    };
+    append_element(alloc, network, parts.inner, parts.branches)
 }

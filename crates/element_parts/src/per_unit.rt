@@ -5,7 +5,6 @@ ghost use Rattle.exact_fraction.specs.Fraction.{ratio_of};
 ghost use Rattle.study_model.specs.Range.{IsIn};
 ghost use Rattle.study_model.specs.declared.range.TheConstants.Range.{BASE_MVA, BUS_KV};
 ghost use Rattle.element_parts.specs.PerUnit.{kv_of, as_written, impedance_per_unit, impedance_share, susceptance_share, impedance_of_rating, susceptance_of_rating, percent_per_unit, inverse_ratio};
-ghost use Rattle.element_parts.specs.Small.{IsSmall};
 
 use exact_fraction::Fraction;
 use fixed_decimal::Decimal;
@@ -123,7 +122,6 @@ pub fn small(num: i128, den: i128) -> Fraction
     requires positive { pos 1 ≤ℤ den }
     ensures num { result.num ≡ num }
     ensures den { result.den ≡ den }
-    ensures small { IsSmall (ratio_of result) }
 {
     Fraction::new(num, den).unwrap()
 }
@@ -131,8 +129,7 @@ pub fn small(num: i128, den: i128) -> Fraction
 /// The number 0.
 #[tactic(auto, unfolding(exact_algebra::specs::Ratio::whole))]
 pub fn zero() -> Fraction
-    ensures value { ratio_of result ≡ whole (pos 0) }
-    ensures small { IsSmall (ratio_of result) }
+    ensures { ratio_of result ≡ whole (pos 0) }
 {
     small(0, 1)
 }
@@ -140,8 +137,7 @@ pub fn zero() -> Fraction
 /// A decimal as it is written: d/10^6.
 #[tactic(auto, unfolding(crate::specs::PerUnit::as_written))]
 pub fn as_written(d: Decimal) -> Fraction
-    ensures value { ratio_of result ≡ as_written d }
-    ensures small { IsSmall (ratio_of result) }
+    ensures { ratio_of result ≡ as_written d }
 {
     small(i128::from(d.millionths), MILLION)
 }
@@ -150,8 +146,7 @@ pub fn as_written(d: Decimal) -> Fraction
 #[tactic(auto, unfolding(crate::specs::PerUnit::impedance_per_unit))]
 pub fn impedance(z: Decimal, mva: Decimal, kv: Decimal) -> Fraction
     requires { pos 1 ≤ℤ kv }
-    ensures value { ratio_of result ≡ impedance_per_unit z mva kv }
-    ensures small { IsSmall (ratio_of result) }
+    ensures { ratio_of result ≡ impedance_per_unit z mva kv }
 {
     small(product(z, mva), square(kv))
 }
@@ -162,8 +157,7 @@ pub fn impedance_share(z: Decimal, mva: Decimal, kv: Decimal, parts: u32) -> Fra
     requires kv { pos 1 ≤ℤ kv }
     requires some { 1 ≤ parts }
     requires few { parts ≤ 128 }
-    ensures value { ratio_of result ≡ impedance_share z mva kv parts }
-    ensures small { IsSmall (ratio_of result) }
+    ensures { ratio_of result ≡ impedance_share z mva kv parts }
 {
     small(product(z, mva), in_parts(square(kv), parts))
 }
@@ -180,8 +174,7 @@ fn triple(a: Decimal, b: Decimal) -> i128
 #[tactic(auto, unfolding(crate::specs::PerUnit::impedance_per_unit))]
 pub fn triple_impedance(z: Decimal, mva: Decimal, kv: Decimal) -> Fraction
     requires { pos 1 ≤ℤ kv }
-    ensures value { ratio_of result ≡ impedance_per_unit (pos 3 *ℤ z) mva kv }
-    ensures small { IsSmall (ratio_of result) }
+    ensures { ratio_of result ≡ impedance_per_unit (pos 3 *ℤ z) mva kv }
 {
     small(triple(z, mva), square(kv))
 }
@@ -190,8 +183,7 @@ pub fn triple_impedance(z: Decimal, mva: Decimal, kv: Decimal) -> Fraction
 #[tactic(auto, unfolding(crate::specs::PerUnit::impedance_of_rating))]
 pub fn impedance_of_rating(rating: Decimal, mva: Decimal) -> Fraction
     requires { pos 1 ≤ℤ rating }
-    ensures value { ratio_of result ≡ impedance_of_rating rating mva }
-    ensures small { IsSmall (ratio_of result) }
+    ensures { ratio_of result ≡ impedance_of_rating rating mva }
 {
     small(i128::from(mva.millionths), i128::from(rating.millionths))
 }
@@ -200,8 +192,7 @@ pub fn impedance_of_rating(rating: Decimal, mva: Decimal) -> Fraction
 #[tactic(auto, unfolding(crate::specs::PerUnit::susceptance_of_rating))]
 pub fn susceptance_of_rating(rating: Decimal, mva: Decimal) -> Fraction
     requires { pos 1 ≤ℤ mva }
-    ensures value { ratio_of result ≡ susceptance_of_rating rating mva }
-    ensures small { IsSmall (ratio_of result) }
+    ensures { ratio_of result ≡ susceptance_of_rating rating mva }
 {
     small(i128::from(rating.millionths), i128::from(mva.millionths))
 }
@@ -213,8 +204,7 @@ pub fn susceptance_share(b: Decimal, mva: Decimal, kv: Decimal, parts: u32) -> F
     requires kv { IsIn BUS_KV kv }
     requires some { 1 ≤ parts }
     requires few { parts ≤ 128 }
-    ensures value { ratio_of result ≡ susceptance_share b mva kv parts }
-    ensures small { IsSmall (ratio_of result) }
+    ensures { ratio_of result ≡ susceptance_share b mva kv parts }
 {
     small(
         times(b, kv_square(kv)),
@@ -226,8 +216,7 @@ pub fn susceptance_share(b: Decimal, mva: Decimal, kv: Decimal, parts: u32) -> F
 #[tactic(auto, unfolding(crate::specs::PerUnit::inverse_ratio))]
 pub fn inverse_ratio(ratio: Decimal) -> Fraction
     requires { pos 1 ≤ℤ ratio }
-    ensures value { ratio_of result ≡ inverse_ratio ratio }
-    ensures small { IsSmall (ratio_of result) }
+    ensures { ratio_of result ≡ inverse_ratio ratio }
 {
     small(MILLION, i128::from(ratio.millionths))
 }
@@ -236,8 +225,7 @@ pub fn inverse_ratio(ratio: Decimal) -> Fraction
 #[tactic(auto, unfolding(crate::specs::PerUnit::percent_per_unit))]
 pub fn percent(z: Decimal, mva: Decimal, rating: Decimal) -> Fraction
     requires { pos 1 ≤ℤ rating }
-    ensures value { ratio_of result ≡ percent_per_unit z mva rating }
-    ensures small { IsSmall (ratio_of result) }
+    ensures { ratio_of result ≡ percent_per_unit z mva rating }
 {
     small(product(z, mva), scaled(rating, PERCENT_MILLIONTHS))
 }

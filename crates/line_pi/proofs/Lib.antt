@@ -1,3 +1,2 @@
 pub mod Cascade
-pub mod Plain
-pub mod Small
+pub mod Sound

@@ -1,13 +1,12 @@
 -- Lines as branches: a line is a cascade of nominal pi sections.
 use Rattle.std.specs.Prelude.{ℕ, zero, suc, ◌+◌, ◌-◌, ◌*◌, ℤ, pos, int_lt, List, ◌∷◌, ◌++◌, map, Option, Some}
-use Rattle.exact_algebra.specs.Ratio.{whole}
-use Rattle.network_theory.specs.Branch.{Law, Series, Shunt, Branch}
+use Rattle.network_theory.specs.Branch.{Law, Shunt, Branch}
 use Rattle.study_model.specs.declared.words.Sequence.{Sequence}
 use Rattle.study_model.specs.declared.words.Sequence.TheVariants.{Positive, Zero}
 use Rattle.study_model.specs.declared.records.Line.{Line}
 use Rattle.study_model.specs.declared.records.Study.{Study}
-use Rattle.element_parts.specs.PerUnit.{kv_of, as_written, impedance_share, susceptance_share}
-use Rattle.element_parts.specs.Expansion.{Expansion, to_ground, between, open_circuit, law_where}
+use Rattle.element_parts.specs.PerUnit.{kv_of, impedance_share, susceptance_share}
+use Rattle.element_parts.specs.Expansion.{Expansion, to_ground, between, skin_series, open_circuit, law_where}
 
 -- a section between two nodes: its impedance, then the laws of an end to ground at its near end and at its far end
 abbrev pub pi_section : Law → List Law → ℕ → ℕ → ℕ → List Branch
@@ -23,7 +22,7 @@ cascade series end near next (suc inner) far owner = pi_section series end near 
 abbrev pub section_series : Study → Line → ℤ → ℤ → Law
 section_series study e r x =
     let v = kv_of study.buses e.from in
-    Series (impedance_share r study.mva v e.sections) (as_written e.skin_k) (as_written e.skin_m) (impedance_share x study.mva v e.sections) (whole (pos 0))
+    skin_series (impedance_share r study.mva v e.sections) e.skin_k e.skin_m (impedance_share x study.mva v e.sections)
 
 -- at an end of a section, where b is above 0: Shunt b/(2N)
 abbrev pub end_laws : Study → Line → ℤ → List Law

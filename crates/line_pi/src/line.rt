@@ -1,18 +1,17 @@
 // Lines. A line is added whole or not at all, so a refused one leaves no inner node behind.
-ghost use Rattle.std.specs.Prelude.{◌≡◌, ◌≢◌, ◌≤◌, ◌-◌, length, map, IsTrue, IsFalse, IfOk, IfErr, OnOk, OnErr};
-ghost use Rattle.std.specs.List.{AllByRecursion};
-ghost use Rattle.network_theory.specs.Network.{IsUncoupled};
+ghost use Rattle.std.specs.Prelude.{◌≡◌, ◌≤◌, ◌-◌, length, map, IfOk};
 ghost use Rattle.study_model.specs.Lawful.{IsLawful, IsLawfulLine};
-ghost use Rattle.net_branch.specs.Exact.{exact_law, exact_branch, exact_network};
+ghost use Rattle.net_branch.specs.Exact.{exact_law, exact_branch};
 ghost use Rattle.net_branch.specs.Whole.{IsWholeNetwork};
 ghost use Rattle.net_branch.specs.declared.limits.TheConstants.{MAX_NODES};
-ghost use Rattle.net_branch.specs.declared.fault.AddFault.TheVariants.{NoMemory};
-ghost use Rattle.element_parts.specs.Small.{IsSmallLaw, AreSmallLaws, HaveSmallLaws};
-ghost use Rattle.element_parts.specs.Expansion.{with_element, is_too_large};
-ghost use Rattle.line_pi.specs.Lines.{section_series, end_laws, line_of, line_in, line_expansion};
+ghost use Rattle.element_parts.specs.Adds.{Adds};
+ghost use Rattle.element_parts.specs.Parts.{exact_parts};
+ghost use Rattle.line_pi.specs.Lines.{section_series, end_laws, line_of, line_expansion};
 
 use crate::section::cascade;
-use element_parts::{Parts, add_plain, impedance_share, kv, skin_series, susceptance_share};
+use element_parts::{
+    Parts, add_plain, impedance_share, kv, open_circuit, skin_series, susceptance_share,
+};
 use fixed_decimal::Decimal;
 use net_branch::{AddFault, Branch, Law, Network};
 use sqlite_items::Items;
@@ -32,8 +31,7 @@ struct Values {
 fn section_series(study: &Study, line: &Line, r: Decimal, x: Decimal) -> Law
     requires study { IsLawful study.now }
     requires line { IsLawfulLine study.now.model study.now.buses line.now }
-    ensures value { exact_law result ≡ section_series study.now line.now r x }
-    ensures small { IsSmallLaw (exact_law result) }
+    ensures { exact_law result ≡ section_series study.now line.now r x }
 {
     let kv = kv(study, line.from);
     skin_series(
@@ -48,8 +46,7 @@ fn section_series(study: &Study, line: &Line, r: Decimal, x: Decimal) -> Law
 fn end_laws(alloc: Global, study: &Study, line: &Line, b: Decimal) -> Result<Items<Law>, AllocError>
     requires study { IsLawful study.now }
     requires line { IsLawfulLine study.now.model study.now.buses line.now }
-    ensures value { IfOk result (λ laws. map exact_law laws ≡ end_laws study.now line.now b) }
-    ensures small { IfOk result (λ laws. AreSmallLaws (map exact_law laws)) }
+    ensures { IfOk result (λ laws. map exact_law laws ≡ end_laws study.now line.now b) }
 {
     if b.millionths <= 0 {
         return Ok(Items::new(alloc));
@@ -60,7 +57,6 @@ fn end_laws(alloc: Global, study: &Study, line: &Line, b: Decimal) -> Result<Ite
 }
 
 /// The inner nodes and branches of a line of these values, whose inner nodes are numbered from `next` on.
-#[tactic(auto, using(crate::proofs::Small::small_cascade))]
 fn line_of(
     alloc: Global,
     study: &Study,
@@ -74,7 +70,6 @@ fn line_of(
     requires next { next ≤ MAX_NODES }
     ensures inner { IfOk result (λ parts. parts.inner ≡ line.now.sections - 1) }
     ensures branches { IfOk result (λ parts. map exact_branch parts.branches ≡ (line_of study.now line.now owner next values.r values.x values.b).branches) }
-    ensures small { IfOk result (λ parts. HaveSmallLaws (map exact_branch parts.branches)) }
 {
     let series = section_series(study, line, values.r, values.x);
     let end = end_laws(alloc, study, line, values.b)?;
@@ -86,7 +81,8 @@ fn line_of(
 }
 
 /// The inner nodes and branches of a line in a network, none where it is open.
-fn line_in(
+#[tactic(auto, unfolding(crate::specs::Lines::line_expansion))]
+fn line_parts(
     alloc: Global,
     study: &Study,
     line: &Line,
@@ -97,8 +93,7 @@ fn line_in(
     requires study { IsLawful study.now }
     requires line { IsLawfulLine study.now.model study.now.buses line.now }
     requires next { next ≤ MAX_NODES }
-    ensures value { IfOk result (λ parts. record { inner = parts.inner; branches = map exact_branch parts.branches } ≡ line_in study.now line.now owner next sequence line.now.r0 line.now.x0) }
-    ensures small { IfOk result (λ parts. HaveSmallLaws (map exact_branch parts.branches)) }
+    ensures { IfOk result (λ parts. exact_parts parts ≡ line_expansion study.now line.now owner sequence next) }
 {
     let values = match (sequence, line.r0, line.x0) {
         (Sequence::Positive, _, _) => Values {
@@ -107,12 +102,7 @@ fn line_in(
             b: line.b,
         },
         (Sequence::Zero, Some(r), Some(x)) => Values { r, x, b: line.b0 },
-        (Sequence::Zero, _, _) => {
-            return Ok(Parts {
-                inner: 0,
-                branches: Items::new(alloc),
-            });
-        }
+        (Sequence::Zero, _, _) => return Ok(open_circuit(alloc)),
     };
     line_of(alloc, study, line, owner, next, values)
 }
@@ -121,7 +111,6 @@ fn line_in(
 /// end half of its susceptance to ground, where there is any; its inner nodes come in order. In the zero network the same with its
 /// zero-sequence values where they are given, else nothing. `TooMany` exactly where the network would have more than `MAX_NODES` nodes or
 /// more than `MAX_BRANCHES` branches. A refusal leaves the network as it was. (Arrillaga and Watson, Power System Harmonics.)
-#[tactic(auto, using(crate::proofs::Plain::uncoupled_line), unfolding(crate::specs::Lines::line_expansion))]
 pub fn add_line(
     alloc: Global,
     network: &mut Network,
@@ -134,16 +123,8 @@ pub fn add_line(
     requires line { IsLawfulLine study.now.model study.now.buses line.now }
     requires buses { network.old.buses ≡ length study.now.buses }
     requires whole { IsWholeNetwork network.old }
-    ensures appended { OnOk result (exact_network network.new ≡ with_element (exact_network network.old) (line_expansion study.now line.now owner sequence network.old.nodes)) }
-    ensures fits { OnOk result (IsFalse (is_too_large (with_element (exact_network network.old) (line_expansion study.now line.now owner sequence network.old.nodes)))) }
-    ensures too_many { IfErr result (λ fault. fault ≢ NoMemory → IsTrue (is_too_large (with_element (exact_network network.old) (line_expansion study.now line.now owner sequence network.old.nodes)))) }
-    ensures small { OnOk result (HaveSmallLaws (line_expansion study.now line.now owner sequence network.old.nodes).branches) }
-    ensures uncoupled { OnOk result (AllByRecursion IsUncoupled (line_expansion study.now line.now owner sequence network.old.nodes).branches) }
-    ensures unchanged { OnErr result (network.new ≡ network.old) }
-    ensures whole { IsWholeNetwork network.new }
+    ensures { Adds network.old network.new result (line_expansion study.now line.now owner sequence network.old.nodes) }
 {
-    match line_in(alloc, study, line, owner, sequence, network.nodes) {
-        Ok(parts) => add_plain(alloc, network, parts.inner, parts.branches),
-        Err(_) => Err(AddFault::NoMemory),
-    }
+    let parts = line_parts(alloc, study, line, owner, sequence, network.nodes);
+    add_plain(alloc, network, parts)
 }

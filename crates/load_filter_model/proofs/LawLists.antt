@@ -1,20 +1,11 @@
 -- Lists of laws.
-use Rattle.std.proofs.Common.{ℕ, suc, List, [], ◌∷◌, ◌++◌, map, arith}
-use Rattle.std.specs.List.{AllByRecursion}
+use Rattle.std.proofs.Common.{◌≡◌, Bool, true, List, [], ◌∷◌, ◌++◌, map, refl}
+use Rattle.std.proofs.lemmas.List.{map-append}
 use Rattle.network_theory.specs.Branch.{Law as ExactLaw}
-use Rattle.network_theory.specs.Network.{IsUncoupled}
 use Rattle.net_branch.specs.Exact.{exact_law}
 use Rattle.net_branch.specs.declared.network.Law.{Law}
-use Rattle.element_parts.specs.Expansion.{grounded_at}
-use Rattle.element_parts.specs.Plain.{ArePlainLaws}
-use Rattle.element_parts.specs.Small.{IsSmallLaw, AreSmallLaws}
-use Rattle.element_parts.proofs.PlainLaws.{plain_to_grounds}
-use Rattle.element_parts.proofs.PlainElements.{all_uncoupled}
+use Rattle.element_parts.specs.Expansion.{law_where}
 
--- one more law
-pub small_push : (xs : List Law) (x : Law) → AreSmallLaws (map exact_law xs) → IsSmallLaw (exact_law x) → AreSmallLaws (map exact_law (xs ++ x ∷ []))
-small_push [] x h k = (k, tt)
-small_push (y ∷ ys) x h k = (h.0, small_push ys x h.1 k)
-
-pub uncoupled_at : (bus : ℕ) (laws : List ExactLaw) (owner : ℕ) → ArePlainLaws laws → AllByRecursion IsUncoupled (grounded_at bus laws owner).branches
-uncoupled_at bus laws owner h = all_uncoupled (suc bus) (grounded_at bus laws owner).branches (plain_to_grounds (suc bus) bus owner laws (omega arith) h)
+-- a law that is there, behind those before
+pub pushed : (xs ys : List Law) (x : Law) (b : Bool) (law : ExactLaw) → ys ≡ xs ++ x ∷ [] → b ≡ true → exact_law x ≡ law → map exact_law ys ≡ map exact_law xs ++ law_where b law
+pushed xs ys x b law e t f = rw (e, t, map-append exact_law xs (x ∷ []), f) refl

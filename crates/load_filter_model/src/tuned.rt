@@ -4,7 +4,6 @@ ghost use Rattle.exact_fraction.specs.Fraction.{ratio_of};
 ghost use Rattle.study_model.specs.Range.{IsIn};
 ghost use Rattle.study_model.specs.declared.range.TheConstants.Range.{TUNED_ORDER, QUALITY};
 ghost use Rattle.load_filter_model.specs.Filters.{tuned_reactance, tuned_resistance, highpass_resistance, above_fundamental, ctype_reactance, ctype_resistance};
-ghost use Rattle.element_parts.specs.Small.{IsSmall};
 
 use element_parts::{product, scaled, small, times};
 use exact_fraction::Fraction;
@@ -51,8 +50,7 @@ fn order_quality(order: Decimal, quality: Decimal) -> i128
 pub fn tuned_reactance(rating: Decimal, order: Decimal, mva: Decimal) -> Fraction
     requires rating { pos 1 ≤ℤ rating }
     requires order { IsIn TUNED_ORDER order }
-    ensures value { ratio_of result ≡ tuned_reactance rating order mva }
-    ensures small { IsSmall (ratio_of result) }
+    ensures { ratio_of result ≡ tuned_reactance rating order mva }
 {
     small(times(mva, ONE), scaled(rating, square(order)))
 }
@@ -63,8 +61,7 @@ pub fn tuned_resistance(rating: Decimal, order: Decimal, quality: Decimal, mva: 
     requires rating { pos 1 ≤ℤ rating }
     requires order { IsIn TUNED_ORDER order }
     requires quality { IsIn QUALITY quality }
-    ensures value { ratio_of result ≡ tuned_resistance rating order quality mva }
-    ensures small { IsSmall (ratio_of result) }
+    ensures { ratio_of result ≡ tuned_resistance rating order quality mva }
 {
     small(
         times(mva, ONE),
@@ -94,8 +91,7 @@ pub fn highpass_resistance(
 ) -> Fraction
     requires rating { pos 1 ≤ℤ rating }
     requires order { IsIn TUNED_ORDER order }
-    ensures value { ratio_of result ≡ highpass_resistance rating order quality mva }
-    ensures small { IsSmall (ratio_of result) }
+    ensures { ratio_of result ≡ highpass_resistance rating order quality mva }
 {
     small(product(quality, mva), rating_order(rating, order))
 }
@@ -105,8 +101,7 @@ pub fn highpass_resistance(
 pub fn ctype_reactance(rating: Decimal, order: Decimal, mva: Decimal) -> Fraction
     requires rating { pos 1 ≤ℤ rating }
     requires order { IsIn TUNED_ORDER order }
-    ensures value { ratio_of result ≡ ctype_reactance rating order mva }
-    ensures small { IsSmall (ratio_of result) }
+    ensures { ratio_of result ≡ ctype_reactance rating order mva }
 {
     small(times(mva, ONE), scaled(rating, above_fundamental(order)))
 }
@@ -128,8 +123,7 @@ pub fn ctype_resistance(rating: Decimal, order: Decimal, quality: Decimal, mva: 
     requires rating { pos 1 ≤ℤ rating }
     requires order { IsIn TUNED_ORDER order }
     requires quality { IsIn QUALITY quality }
-    ensures value { ratio_of result ≡ ctype_resistance rating order quality mva }
-    ensures small { IsSmall (ratio_of result) }
+    ensures { ratio_of result ≡ ctype_resistance rating order quality mva }
 {
     small(
         quality_order_base(quality, order, mva),

@@ -1,9 +1,7 @@
 -- Networks that grow element by element.
-use Rattle.std.proofs.Common.{◌≡◌, ℕ, suc, ◌+◌, ◌≤◌, ◌<◌, ◌∙◌, ◌||◌, true, false, List, [], ◌∷◌, ◌++◌, map, length, drop, get_or, nat_lt, ap, sym, subst, refl, arith, length-append, drop-cons}
+use Rattle.std.proofs.Common.{◌≡◌, ℕ, zero, suc, ◌+◌, ◌≤◌, ◌<◌, ◌∙◌, ◌||◌, true, false, List, [], ◌∷◌, length, drop, nat_lt, slice_get, Some, ap, subst, refl, arith, length-append}
 use Rattle.std.proofs.lemmas.Bool.Decides.{nat_tests}
 use Rattle.std.proofs.lemmas.List.{length-map}
-use Rattle.std.specs.List.{AllByRecursion}
-use Rattle.network_theory.specs.Branch.{Branch}
 use Rattle.network_theory.specs.Network.{Network}
 use Rattle.element_parts.specs.Expansion.{with_element, is_too_large}
 use Rattle.net_branch.specs.declared.limits.TheConstants.{MAX_NODES, MAX_BRANCHES}
@@ -12,19 +10,44 @@ use Rattle.net_branch.specs.Whole.{IsWithinLimits}
 use Rattle.net_branch.specs.declared.network.Network.{Network as BuiltNetwork}
 use Rattle.study_model.specs.declared.words.Sequence.{Sequence}
 use Rattle.study_model.specs.declared.records.Study.{Study}
-use Rattle.study_model.specs.Elements.{StudyElement, of_line, of_transformer, of_load, of_bank, of_filter, elements_of}
+use Rattle.study_model.specs.Elements.{StudyElement, elements_of}
 use Rattle.sequence_network.specs.Networks.{expansion_of, with_elements, bus_nodes, network_of}
 
--- one element more
-pub element_step : {A : Type 0} (study : Study) (sequence : Sequence) (of : A → StudyElement) (n m : Network) (owner : ℕ) (xs : List A) (i : ℕ) (x : A) (rest : List StudyElement)
-    → i < length xs → x ≡ get_or xs i x → m ≡ with_element n (expansion_of study sequence n.nodes (of x) owner)
-    → with_elements study sequence m (owner + 1) (map of (drop (i + 1) xs) ++ rest) ≡ with_elements study sequence n owner (map of (drop i xs) ++ rest)
-element_step {A} study sequence of n m owner xs i x rest h e f =
-    let next : suc i ≡ i + 1 = omega arith in
-    let left : drop i xs ≡ x ∷ drop (i + 1) xs =
-    drop-cons xs i x h ∙ ap (λ (y : A). y ∷ drop (suc i) xs) (sym e) ∙ ap (λ (k : ℕ). x ∷ drop k xs) next in
-    ap (λ (k : Network). with_elements study sequence k (owner + 1) (map of (drop (i + 1) xs) ++ rest)) f
-    ∙ sym (ap (λ (ys : List A). with_elements study sequence n owner (map of ys ++ rest)) left)
+-- the element at a place, and those after it
+pub record IsNext (es : List StudyElement) (place : ℕ) : Type 0 where
+  pub element : StudyElement
+  pub there : slice_get es place ≡ Some element
+  pub rest : drop place es ≡ element ∷ drop (suc place) es
+
+pub next_of : (es : List StudyElement) (place : ℕ) → place < length es → IsNext es place
+next_of [] place h = absurd (omega arith)
+next_of (e ∷ es) zero h = record { element = e; there = refl; rest = refl }
+next_of (e ∷ es) (suc place) h = let n = next_of es place (omega arith) in record { element = n.element; there = n.there; rest = n.rest }
+
+none_left : (es : List StudyElement) (place : ℕ) → length es ≤ place → drop place es ≡ []
+none_left [] zero h = refl
+none_left [] (suc place) h = refl
+none_left (e ∷ es) zero h = absurd (omega arith)
+none_left (e ∷ es) (suc place) h = none_left es place (omega arith)
+
+-- a network to which the elements from a place on are still to be added, so that it becomes the target
+abbrev pub Becomes : Study → Sequence → Network → ℕ → Network → Type 0
+Becomes study sequence n place target = with_elements study sequence n (place + 1) (drop place (elements_of study)) ≡ target
+
+-- the same with the next element
+by_next : (study : Study) (sequence : Sequence) (n target : Network) (place : ℕ) (x : IsNext (elements_of study) place) → Becomes study sequence n place target
+    → with_elements study sequence (with_element n (expansion_of study sequence n.nodes x.element (place + 1))) (place + 1 + 1) (drop (suc place) (elements_of study)) ≡ target
+by_next study sequence n target place x g = subst (λ (l : List StudyElement). with_elements study sequence n (place + 1) l ≡ target) x.rest g
+
+pub one_more : (study : Study) (sequence : Sequence) (n m target : Network) (place : ℕ) (x : IsNext (elements_of study) place) → m ≡ with_element n (expansion_of study sequence n.nodes x.element (place + 1))
+    → Becomes study sequence n place target → Becomes study sequence m (place + 1) target
+one_more study sequence n m target place x f g =
+    let more : suc place ≡ place + 1 = omega arith in
+    subst (λ (k : ℕ). with_elements study sequence m (place + 1 + 1) (drop k (elements_of study)) ≡ target) more (rw f (by_next study sequence n target place x g))
+
+-- after the last element
+pub all_added : (study : Study) (sequence : Sequence) (n target : Network) (place : ℕ) → length (elements_of study) ≤ place → Becomes study sequence n place target → n ≡ target
+all_added study sequence n target place h g = subst (λ (l : List StudyElement). with_elements study sequence n (place + 1) l ≡ target) (none_left (elements_of study) place h) g
 
 -- a network that is too large stays so
 record IsWithin (n m : Network) : Type 0 where
@@ -48,37 +71,14 @@ large_stays : (study : Study) (sequence : Sequence) (n : Network) (owner : ℕ) 
 large_stays study sequence n owner xs e = still_large n (with_elements study sequence n owner xs) (grows study sequence n owner xs) e
 
 -- an element that makes a network too large does so whatever comes after it
-pub large_element : {A : Type 0} (study : Study) (sequence : Sequence) (of : A → StudyElement) (n target : Network) (owner : ℕ) (xs : List A) (i : ℕ) (x : A) (rest : List StudyElement)
-    → i < length xs → x ≡ get_or xs i x → with_elements study sequence n owner (map of (drop i xs) ++ rest) ≡ target
-    → is_too_large (with_element n (expansion_of study sequence n.nodes (of x) owner)) ≡ true → is_too_large target ≡ true
-large_element study sequence of n target owner xs i x rest h e f large =
-    let more = with_element n (expansion_of study sequence n.nodes (of x) owner) in
-    let step = element_step study sequence of n more owner xs i x rest h e refl in
-    subst (λ (k : Network). is_too_large k ≡ true) (step ∙ f) (large_stays study sequence more (owner + 1) (map of (drop (i + 1) xs) ++ rest) large)
+pub large_element : (study : Study) (sequence : Sequence) (n target : Network) (place : ℕ) (x : IsNext (elements_of study) place)
+    → is_too_large (with_element n (expansion_of study sequence n.nodes x.element (place + 1))) ≡ true → Becomes study sequence n place target → is_too_large target ≡ true
+large_element study sequence n target place x f g =
+    subst (λ (k : Network). is_too_large k ≡ true) (by_next study sequence n target place x g)
+    (large_stays study sequence (with_element n (expansion_of study sequence n.nodes x.element (place + 1))) (place + 1 + 1) (drop (suc place) (elements_of study)) f)
 
 fits_limits : (k b : ℕ) → k ≤ MAX_NODES → b ≤ MAX_BRANCHES → (nat_lt MAX_NODES k || nat_lt MAX_BRANCHES b) ≡ false
 fits_limits k b h g = grind (arith, nat_tests)
-
--- what holds of each branch before and of each new one
-pub all_append : (P : Branch → Type 0) (xs ys : List Branch) → AllByRecursion P xs → AllByRecursion P ys → AllByRecursion P (xs ++ ys)
-all_append P [] ys h k = k
-all_append P (x ∷ xs) ys h k = (h.0, all_append P xs ys h.1 k)
-
--- the elements from a section on
-abbrev pub from_filters : Study → List StudyElement
-from_filters study = map of_filter study.filters
-
-abbrev pub from_banks : Study → List StudyElement
-from_banks study = map of_bank study.banks ++ from_filters study
-
-abbrev pub from_loads : Study → List StudyElement
-from_loads study = map of_load study.loads ++ from_banks study
-
-abbrev pub from_transformers : Study → List StudyElement
-from_transformers study = map of_transformer study.transformers ++ from_loads study
-
-abbrev pub from_lines : Study → List StudyElement
-from_lines study = map of_line study.lines ++ from_transformers study
 
 -- a network with its bus nodes alone, and what is to come
 pub start_of : (study : Study) (sequence : Sequence) (n : BuiltNetwork) (b : ℕ) → n ≡ record { buses = b; nodes = b; branches = [] } → b ≡ length study.buses
@@ -87,9 +87,6 @@ unfolding network_of
 start_of study sequence n b e h =
     let start : exact_network n ≡ bus_nodes study = ap exact_network e ∙ ap (λ (k : ℕ). record { buses = k; nodes = k; branches = [] }) h in
     ap (λ (k : Network). with_elements study sequence k 1 (elements_of study)) start
-
-pub along : (n m : Network) → n ≡ m → is_too_large n ≡ true → is_too_large m ≡ true
-along n m e h = subst (λ (k : Network). is_too_large k ≡ true) e h
 
 -- a whole network is within the limits
 pub not_too_large : (n : BuiltNetwork) (m : Network) → IsWithinLimits n → exact_network n ≡ m → is_too_large m ≡ false

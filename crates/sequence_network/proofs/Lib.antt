@@ -1,3 +1,5 @@
+pub mod Branches
+pub mod Owners
 pub mod Growth
 pub mod Liveness
 pub mod AtOrderTwo

@@ -10,11 +10,14 @@ use Rattle.study_model.specs.declared.records.Study.{Study}
 use Rattle.element_parts.specs.Small.{HaveSmallLaws}
 use Rattle.element_parts.specs.Expansion.{is_too_large}
 use Rattle.sequence_network.specs.Networks.{network_of}
+use Rattle.sequence_network.specs.Owners.{OwnTheirBranches}
 
--- exactly the study's network, whole and within the limits; its branches are uncoupled, and the numbers of their laws small
+-- exactly the study's network, whole and within the limits; its branches are uncoupled and their elements' own, and the numbers of their laws
+-- small
 pub record IsNetworkOf (study : Study) (sequence : Sequence) (network : Network) : Type 0 where
   pub exact : exact_network network ≡ network_of study sequence
   pub whole : IsWholeNetwork network
   pub fits : IsFalse (is_too_large (network_of study sequence))
   pub small : HaveSmallLaws (network_of study sequence).branches
   pub uncoupled : AllByRecursion IsUncoupled (network_of study sequence).branches
+  pub owners : OwnTheirBranches study sequence

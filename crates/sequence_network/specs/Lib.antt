@@ -1,4 +1,5 @@
 pub mod Networks
+pub mod Owners
 pub mod Built
 pub mod Refusals
 pub mod Worked

@@ -1,16 +1,12 @@
 // The network of a study: a node for each bus, then the elements in the order of their numbers.
-ghost use Rattle.std.specs.Prelude.{◌≡◌, ◌≢◌, IsTrue, IsFalse, IfOk, IfErr, OnOk};
-ghost use Rattle.std.specs.List.{AllByRecursion};
-ghost use Rattle.network_theory.specs.Network.{IsUncoupled};
+ghost use Rattle.std.specs.Prelude.{◌≢◌, IsTrue, IfOk, IfErr};
 ghost use Rattle.study_model.specs.Lawful.{IsLawful};
-ghost use Rattle.net_branch.specs.Exact.{exact_network};
-ghost use Rattle.net_branch.specs.Whole.{IsWholeNetwork};
 ghost use Rattle.net_branch.specs.declared.fault.AddFault.TheVariants.{NoMemory};
-ghost use Rattle.element_parts.specs.Small.{HaveSmallLaws};
 ghost use Rattle.element_parts.specs.Expansion.{is_too_large};
 ghost use Rattle.sequence_network.specs.Networks.{network_of};
+ghost use Rattle.sequence_network.specs.Built.{IsNetworkOf};
 
-use crate::elements::add_section;
+use crate::elements::{add_element, element_count};
 use net_branch::{AddFault, Network, new_network};
 use std::alloc::Global;
 use study_model::{Sequence, Study};
@@ -20,29 +16,15 @@ use study_model::{Sequence, Study};
 /// more than `MAX_BRANCHES` branches. (Arrillaga and Watson, Power System Harmonics.)
 pub fn build_sequence(alloc: Global, study: &Study, sequence: Sequence) -> Result<Network, AddFault>
     requires { IsLawful study.now }
-    ensures network { IfOk result (λ network. exact_network network ≡ network_of study.now sequence) }
-    ensures whole { IfOk result IsWholeNetwork }
-    ensures small { OnOk result (HaveSmallLaws (network_of study.now sequence).branches) }
-    ensures uncoupled { OnOk result (AllByRecursion IsUncoupled (network_of study.now sequence).branches) }
-    ensures fits { OnOk result (IsFalse (is_too_large (network_of study.now sequence))) }
+    ensures network { IfOk result (IsNetworkOf study.now sequence) }
     ensures too_many { IfErr result (λ fault. fault ≢ NoMemory → IsTrue (is_too_large (network_of study.now sequence))) }
 {
     let buses = study.buses.len() as u32;
     let Ok(mut network) = new_network(alloc, buses) else {
         return Err(AddFault::NoMemory);
     };
-    let line = add_section(alloc, &mut network, study, &study.sources, 1, sequence)?;
-    let transformer = add_section(alloc, &mut network, study, &study.lines, line, sequence)?;
-    let load = add_section(
-        alloc,
-        &mut network,
-        study,
-        &study.transformers,
-        transformer,
-        sequence,
-    )?;
-    let bank = add_section(alloc, &mut network, study, &study.loads, load, sequence)?;
-    let filter = add_section(alloc, &mut network, study, &study.banks, bank, sequence)?;
-    add_section(alloc, &mut network, study, &study.filters, filter, sequence)?;
+    for place in 0..element_count(study) {
+        add_element(alloc, &mut network, study, place, sequence)?;
+    }
     Ok(network)
 }

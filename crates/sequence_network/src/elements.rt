@@ -1,165 +1,73 @@
-// The elements of a section, added one after another.
-ghost use Rattle.std.specs.Prelude.{◌≡◌, ◌≢◌, ℕ, ◌+◌, ◌<◌, ◌^◌, List, ◌++◌, map, length, All, IsTrue, IfOk, IfErr, OnOk};
-ghost use Rattle.std.specs.List.{AllByRecursion};
-ghost use Rattle.network_theory.specs.Network.{IsUncoupled};
+// The elements of a study, by their places.
+ghost use Rattle.std.specs.Prelude.{◌≡◌, ◌+◌, ◌<◌, ◌≤◌, length, slice_get, Some};
 ghost use Rattle.study_model.specs.Lawful.{IsLawful};
-ghost use Rattle.net_branch.specs.Exact.{exact_network};
+ghost use Rattle.study_model.specs.Elements.{StudyElement, elements_of};
+ghost use Rattle.study_model.specs.declared.limits.TheConstants.{MAX_ALL_ELEMENTS};
 ghost use Rattle.net_branch.specs.Whole.{IsWholeNetwork};
-ghost use Rattle.net_branch.specs.declared.fault.AddFault.TheVariants.{NoMemory};
-ghost use Rattle.element_parts.specs.Small.{HaveSmallLaws};
-ghost use Rattle.element_parts.specs.Expansion.{with_element, is_too_large};
-ghost use Rattle.study_model.specs.Elements.{StudyElement, of_source, of_line, of_transformer, of_load, of_bank, of_filter};
-ghost use Rattle.sequence_network.specs.Networks.{IsLawfulElement, expansion_of, with_elements};
+ghost use Rattle.element_parts.specs.Adds.{Adds};
+ghost use Rattle.sequence_network.specs.Networks.{expansion_of};
 
 use line_pi::add_line;
 use load_filter_model::{add_bank, add_filter, add_load, add_source};
 use net_branch::{AddFault, Network};
-use sqlite_items::Items;
 use std::alloc::Global;
-use study_model::{Bank, Filter, Line, Load, Sequence, Source, Study, Transformer};
+use study_model::{Sequence, Study};
 use transformer_model::add_transformer;
 
-/// An element of a study, which is added to a network under its number.
-pub trait Element {
-    ghost element: { Self → StudyElement };
-
-    fn add(
-        &self,
-        alloc: Global,
-        network: &mut Network,
-        study: &Study,
-        owner: u32,
-        sequence: Sequence,
-    ) -> Result<(), AddFault>
-        requires study { IsLawful study.now }
-        requires element { IsLawfulElement study.now (element self.now) }
-        requires buses { network.old.buses ≡ length study.now.buses }
-        requires whole { IsWholeNetwork network.old }
-        ensures appended { OnOk result (exact_network network.new ≡ with_element (exact_network network.old) (expansion_of study.now sequence network.old.nodes (element self.now) owner)) }
-        ensures too_many { IfErr result (λ fault. fault ≢ NoMemory → IsTrue (is_too_large (with_element (exact_network network.old) (expansion_of study.now sequence network.old.nodes (element self.now) owner)))) }
-        ensures small { OnOk result (HaveSmallLaws (expansion_of study.now sequence network.old.nodes (element self.now) owner).branches) }
-        ensures uncoupled { OnOk result (AllByRecursion IsUncoupled (expansion_of study.now sequence network.old.nodes (element self.now) owner).branches) }
-        ensures whole { IsWholeNetwork network.new };
+/// How many elements a study has.
+pub fn element_count(study: &Study) -> usize
+    requires { IsLawful study.now }
+    ensures count { result ≡ length (elements_of study.now) }
+    ensures few { result ≤ MAX_ALL_ELEMENTS }
+{
+    study.sources.len()
+        + study.lines.len()
+        + study.transformers.len()
+        + study.loads.len()
+        + study.banks.len()
+        + study.filters.len()
 }
 
-impl Element for Source {
-    ghost element = { of_source };
-
-    fn add(
-        &self,
-        alloc: Global,
-        network: &mut Network,
-        study: &Study,
-        owner: u32,
-        sequence: Sequence,
-    ) -> Result<(), AddFault> {
-        add_source(alloc, network, study, self, owner, sequence)
-    }
-}
-
-impl Element for Line {
-    ghost element = { of_line };
-
-    fn add(
-        &self,
-        alloc: Global,
-        network: &mut Network,
-        study: &Study,
-        owner: u32,
-        sequence: Sequence,
-    ) -> Result<(), AddFault> {
-        add_line(alloc, network, study, self, owner, sequence)
-    }
-}
-
-impl Element for Transformer {
-    ghost element = { of_transformer };
-
-    fn add(
-        &self,
-        alloc: Global,
-        network: &mut Network,
-        study: &Study,
-        owner: u32,
-        sequence: Sequence,
-    ) -> Result<(), AddFault> {
-        add_transformer(alloc, network, study, self, owner, sequence)
-    }
-}
-
-impl Element for Load {
-    ghost element = { of_load };
-
-    fn add(
-        &self,
-        alloc: Global,
-        network: &mut Network,
-        study: &Study,
-        owner: u32,
-        sequence: Sequence,
-    ) -> Result<(), AddFault> {
-        add_load(alloc, network, study, self, owner, sequence)
-    }
-}
-
-impl Element for Bank {
-    ghost element = { of_bank };
-
-    fn add(
-        &self,
-        alloc: Global,
-        network: &mut Network,
-        study: &Study,
-        owner: u32,
-        sequence: Sequence,
-    ) -> Result<(), AddFault> {
-        add_bank(alloc, network, study, self, owner, sequence)
-    }
-}
-
-impl Element for Filter {
-    ghost element = { of_filter };
-
-    fn add(
-        &self,
-        alloc: Global,
-        network: &mut Network,
-        study: &Study,
-        owner: u32,
-        sequence: Sequence,
-    ) -> Result<(), AddFault> {
-        add_filter(alloc, network, study, self, owner, sequence)
-    }
-}
-
-/// Adds the elements of a section in order, the first under the number `first`, and gives the number of the next section's first. What
-/// is said of the network holds whatever elements are to follow.
-pub fn add_section<E: Element>(
+/// Adds the element of a study at a place, counted from 0, under its number, which is one more.
+pub fn add_element(
     alloc: Global,
     network: &mut Network,
     study: &Study,
-    elements: &Items<E>,
-    first: u32,
+    place: usize,
     sequence: Sequence,
-) -> Result<u32, AddFault>
+) -> Result<(), AddFault>
     requires study { IsLawful study.now }
-    requires elements { All (λ e. IsLawfulElement study.now (E.element e)) elements.now }
-    requires numbers { first + length elements.now < 2 ^ 32 }
+    requires place { place < length (elements_of study.now) }
+    requires few { place < MAX_ALL_ELEMENTS }
     requires buses { network.old.buses ≡ length study.now.buses }
     requires whole { IsWholeNetwork network.old }
-    ensures next { IfOk result (λ next. next ≡ first + length elements.now) }
-    ensures appended { IfOk result (λ next. (rest : List StudyElement) → with_elements study.now sequence (exact_network network.new) next rest ≡ with_elements study.now sequence (exact_network network.old) first (map E.element elements.now ++ rest)) }
-    ensures too_many { IfErr result (λ fault. fault ≢ NoMemory → (rest : List StudyElement) → IsTrue (is_too_large (with_elements study.now sequence (exact_network network.old) first (map E.element elements.now ++ rest)))) }
-    ensures small { OnOk result (HaveSmallLaws (exact_network network.old).branches → HaveSmallLaws (exact_network network.new).branches) }
-    ensures uncoupled { OnOk result (AllByRecursion IsUncoupled (exact_network network.old).branches → AllByRecursion IsUncoupled (exact_network network.new).branches) }
-    ensures buses { OnOk result (network.new.buses ≡ network.old.buses) }
-    ensures whole { IsWholeNetwork network.new }
+    ensures { (element : StudyElement) → slice_get (elements_of study.now) place ≡ Some element → Adds network.old network.new result (expansion_of study.now sequence network.old.nodes element (place + 1)) }
 {
-    let mut owner = first;
-    let items = elements.as_slice();
-    for element in items {
-        element.add(alloc, network, study, owner, sequence)?;
-        owner += 1;
+    let owner = place as u32 + 1;
+    let sources = study.sources.as_slice();
+    if place < sources.len() {
+        return add_source(alloc, network, study, &sources[place], owner, sequence);
     }
-    Ok(owner)
+    let place = place - sources.len();
+    let lines = study.lines.as_slice();
+    if place < lines.len() {
+        return add_line(alloc, network, study, &lines[place], owner, sequence);
+    }
+    let place = place - lines.len();
+    let transformers = study.transformers.as_slice();
+    if place < transformers.len() {
+        return add_transformer(alloc, network, study, &transformers[place], owner, sequence);
+    }
+    let place = place - transformers.len();
+    let loads = study.loads.as_slice();
+    if place < loads.len() {
+        return add_load(alloc, network, study, &loads[place], owner, sequence);
+    }
+    let place = place - loads.len();
+    let banks = study.banks.as_slice();
+    if place < banks.len() {
+        return add_bank(alloc, network, study, &banks[place], owner, sequence);
+    }
+    let filter = &study.filters.as_slice()[place - banks.len()];
+    add_filter(alloc, network, study, filter, owner, sequence)
 }

@@ -1,20 +1,19 @@
 -- Transformers as branches.
 use Rattle.std.specs.Prelude.{ℕ, ◌+◌, ℤ, pos, negsuc, ◌*ℤ◌, int_lt, ◌||◌, List, [], ◌∷◌, ◌++◌, map, length}
 use Rattle.exact_algebra.specs.Ratio.{Ratio, whole}
-use Rattle.network_theory.specs.Branch.{Law, Series, Branch}
+use Rattle.network_theory.specs.Branch.{Law, Branch}
 use Rattle.study_model.specs.declared.words.Sequence.{Sequence}
 use Rattle.study_model.specs.declared.words.Sequence.TheVariants.{Positive, Zero}
 use Rattle.study_model.specs.declared.words.Connection.{Connection}
 use Rattle.study_model.specs.declared.words.Connection.TheVariants.{Grounded, Delta}
 use Rattle.study_model.specs.declared.records.Transformer.{Transformer}
 use Rattle.study_model.specs.declared.records.Study.{Study}
-use Rattle.element_parts.specs.PerUnit.{kv_of, as_written, impedance_per_unit, percent_per_unit, inverse_ratio}
-use Rattle.element_parts.specs.Expansion.{Expansion, between, open_circuit, law_where}
+use Rattle.element_parts.specs.PerUnit.{kv_of, impedance_per_unit, percent_per_unit, inverse_ratio}
+use Rattle.element_parts.specs.Expansion.{Expansion, between, skin_series, open_circuit, law_where}
 
 -- the leakage impedance Z
 abbrev pub leakage : Study → Transformer → Law
-leakage study e =
-    Series (percent_per_unit e.r study.mva e.mva) (as_written e.skin_k) (as_written e.skin_m) (percent_per_unit e.x study.mva e.mva) (whole (pos 0))
+leakage study e = skin_series (percent_per_unit e.r study.mva e.mva) e.skin_k e.skin_m (percent_per_unit e.x study.mva e.mva)
 
 -- between the from side and the to side: Series Z with the ratios 1/t and -1
 abbrev pub windings : Study → Transformer → ℕ → ℕ → ℕ → Branch
@@ -30,7 +29,7 @@ abbrev pub neutral_laws : Study → Transformer → ℕ → ℤ → ℤ → List
 neutral_laws study e bus rn xn =
     let v = kv_of study.buses bus in
     law_where (int_lt (pos 0) rn || int_lt (pos 0) xn)
-    (Series (impedance_per_unit (pos 3 *ℤ rn) study.mva v) (as_written e.skin_k) (as_written e.skin_m) (impedance_per_unit (pos 3 *ℤ xn) study.mva v) (whole (pos 0)))
+    (skin_series (impedance_per_unit (pos 3 *ℤ rn) study.mva v) e.skin_k e.skin_m (impedance_per_unit (pos 3 *ℤ xn) study.mva v))
 
 -- where a neutral has an impedance, it goes from the bus to an inner node, which then stands for the bus
 abbrev pub neutral : ℕ → ℕ → List Law → ℕ → List Branch

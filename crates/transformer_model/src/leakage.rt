@@ -2,7 +2,6 @@
 ghost use Rattle.std.specs.Prelude.{◌≡◌, ◌≤ℤ◌, pos, IfOk};
 ghost use Rattle.exact_fraction.specs.Fraction.{ratio_of};
 ghost use Rattle.net_branch.specs.Exact.{exact_law, exact_branch};
-ghost use Rattle.element_parts.specs.Small.{IsSmallLaw};
 ghost use Rattle.transformer_model.specs.Transformers.{leakage, windings, winding};
 
 use element_parts::{inverse_ratio, percent, skin_series};
@@ -15,8 +14,7 @@ use study_model::{Study, Transformer};
 /// The leakage impedance, in per unit on the study's base, with the transformer's skin coefficients.
 pub fn leakage(study: &Study, transformer: &Transformer) -> Law
     requires { pos 1 ≤ℤ transformer.now.mva }
-    ensures value { exact_law result ≡ leakage study.now transformer.now }
-    ensures small { IsSmallLaw (exact_law result) }
+    ensures { exact_law result ≡ leakage study.now transformer.now }
 {
     let r = percent(transformer.r, study.mva, transformer.mva);
     let x = percent(transformer.x, study.mva, transformer.mva);
@@ -35,8 +33,7 @@ pub fn windings(
 ) -> Result<Branch, AllocError>
     requires mva { pos 1 ≤ℤ transformer.now.mva }
     requires ratio { pos 1 ≤ℤ transformer.now.ratio }
-    ensures value { IfOk result (λ branch. exact_branch branch ≡ windings study.now transformer.now from to owner) }
-    ensures small { IfOk result (λ branch. IsSmallLaw (exact_law branch.law)) }
+    ensures { IfOk result (λ branch. exact_branch branch ≡ windings study.now transformer.now from to owner) }
 {
     let law = leakage(study, transformer);
     let taps = [
@@ -67,8 +64,7 @@ pub fn winding(
     owner: u32,
 ) -> Result<Branch, AllocError>
     requires { pos 1 ≤ℤ transformer.now.mva }
-    ensures value { IfOk result (λ branch. exact_branch branch ≡ winding study.now transformer.now node (ratio_of ratio) owner) }
-    ensures small { IfOk result (λ branch. IsSmallLaw (exact_law branch.law)) }
+    ensures { IfOk result (λ branch. exact_branch branch ≡ winding study.now transformer.now node (ratio_of ratio) owner) }
 {
     let law = leakage(study, transformer);
     let tap = Tap {

@@ -1,10 +1,8 @@
 // The neutrals of grounded sides. Three equal currents meet there, so a neutral's impedance counts three times.
 ghost use Rattle.std.specs.Prelude.{◌≡◌, ◌<◌, ◌≤◌, ◌≤ℤ◌, ◌*ℤ◌, ◌||◌, ◌++◌, int_lt, pos, length, map, IfOk, OnOk};
-ghost use Rattle.exact_algebra.specs.Ratio.{whole};
-ghost use Rattle.network_theory.specs.Branch.{Series};
 ghost use Rattle.net_branch.specs.Exact.{exact_law, exact_branch};
-ghost use Rattle.element_parts.specs.PerUnit.{kv_of, as_written, impedance_per_unit};
-ghost use Rattle.element_parts.specs.Small.{IsSmallLaw, AreSmallLaws, HaveSmallLaws};
+ghost use Rattle.element_parts.specs.PerUnit.{kv_of, impedance_per_unit};
+ghost use Rattle.element_parts.specs.Expansion.{skin_series};
 ghost use Rattle.transformer_model.specs.Transformers.{neutral_laws, neutral, behind};
 ghost use Rattle.transformer_model.specs.NeutralLaws.{laws_of};
 
@@ -31,9 +29,8 @@ fn triple_neutral(
     xn: Decimal,
 ) -> Law
     requires { pos 1 ≤ℤ kv }
-    ensures value { exact_law result ≡ Series (impedance_per_unit (pos 3 *ℤ rn) study.now.mva kv) (as_written transformer.now.skin_k)
-        (as_written transformer.now.skin_m) (impedance_per_unit (pos 3 *ℤ xn) study.now.mva kv) (whole (pos 0)) }
-    ensures small { IsSmallLaw (exact_law result) }
+    ensures { exact_law result ≡ skin_series (impedance_per_unit (pos 3 *ℤ rn) study.now.mva kv) transformer.now.skin_k
+        transformer.now.skin_m (impedance_per_unit (pos 3 *ℤ xn) study.now.mva kv) }
 {
     let r = triple_impedance(rn, study.mva, kv);
     let x = triple_impedance(xn, study.mva, kv);
@@ -50,8 +47,7 @@ pub fn neutral_law(
 ) -> Option<Law>
     requires bus { bus < length study.now.buses }
     requires kv { pos 1 ≤ℤ kv_of study.now.buses bus }
-    ensures value { laws_of result ≡ neutral_laws study.now transformer.now bus rn xn }
-    ensures small { AreSmallLaws (laws_of result) }
+    ensures { laws_of result ≡ neutral_laws study.now transformer.now bus rn xn }
 {
     if has_impedance(rn, xn) {
         Some(triple_neutral(study, transformer, kv(study, bus), rn, xn))
@@ -82,7 +78,6 @@ pub fn node_behind(bus: u32, next: u32, law: Option<Law>) -> u32
 }
 
 /// The branch of a neutral with an impedance, from the bus to the next inner node, after the branches.
-#[tactic(auto, using(crate::proofs::Small::small_push))]
 pub fn push_neutral(
     alloc: Global,
     branches: &mut Items<Branch>,
@@ -91,9 +86,7 @@ pub fn push_neutral(
     law: Option<Law>,
     owner: u32,
 ) -> Result<(), AllocError>
-    requires { AreSmallLaws (laws_of law) }
-    ensures value { OnOk result (map exact_branch branches.new ≡ map exact_branch branches.old ++ neutral bus next (laws_of law) owner) }
-    ensures small { OnOk result (HaveSmallLaws (map exact_branch branches.old) → HaveSmallLaws (map exact_branch branches.new)) }
+    ensures { OnOk result (map exact_branch branches.new ≡ map exact_branch branches.old ++ neutral bus next (laws_of law) owner) }
 {
     let Some(law) = law else {
         return Ok(());

@@ -1,16 +1,11 @@
 // Transformers. The positive network has the leakage alone; which way zero sequence takes, both windings decide (zero.rt).
-ghost use Rattle.std.specs.Prelude.{◌≡◌, ◌≢◌, ◌≤◌, ◌≤ℤ◌, pos, [], ◌∷◌, length, IsTrue, IsFalse, IfOk, IfErr, OnOk, OnErr};
-ghost use Rattle.std.specs.List.{AllByRecursion};
-ghost use Rattle.network_theory.specs.Network.{IsUncoupled};
+ghost use Rattle.std.specs.Prelude.{◌≡◌, ◌≤◌, ◌≤ℤ◌, pos, [], ◌∷◌, length, IfOk};
 ghost use Rattle.study_model.specs.Lawful.{IsLawful, IsLawfulTransformer};
-ghost use Rattle.net_branch.specs.Exact.{exact_network};
 ghost use Rattle.net_branch.specs.Whole.{IsWholeNetwork};
-ghost use Rattle.net_branch.specs.declared.fault.AddFault.TheVariants.{NoMemory};
 ghost use Rattle.net_branch.specs.declared.limits.TheConstants.{MAX_NODES};
-ghost use Rattle.element_parts.specs.Small.{HaveSmallLaws};
-ghost use Rattle.element_parts.specs.Expansion.{with_element, is_too_large};
-ghost use Rattle.transformer_model.specs.Transformers.{windings, transformer_in, transformer_expansion};
+ghost use Rattle.element_parts.specs.Adds.{Adds};
 ghost use Rattle.element_parts.specs.Parts.{exact_parts};
+ghost use Rattle.transformer_model.specs.Transformers.{windings, transformer_expansion};
 
 use crate::leakage::windings;
 use crate::zero::zero_parts;
@@ -29,8 +24,7 @@ fn positive_parts(
 ) -> Result<Parts, AllocError>
     requires mva { pos 1 ≤ℤ transformer.now.mva }
     requires ratio { pos 1 ≤ℤ transformer.now.ratio }
-    ensures value { IfOk result (λ parts. exact_parts parts ≡ record { inner = 0; branches = windings study.now transformer.now transformer.now.from transformer.now.to owner ∷ [] }) }
-    ensures small { IfOk result (λ parts. HaveSmallLaws (exact_parts parts).branches) }
+    ensures { IfOk result (λ parts. exact_parts parts ≡ record { inner = 0; branches = windings study.now transformer.now transformer.now.from transformer.now.to owner ∷ [] }) }
 {
     let branch = windings(
         alloc,
@@ -46,6 +40,7 @@ fn positive_parts(
 }
 
 /// What a transformer adds to a network. `next` is the number of the first inner node.
+#[tactic(auto, unfolding(crate::specs::Transformers::transformer_expansion))]
 fn transformer_parts(
     alloc: Global,
     study: &Study,
@@ -57,8 +52,7 @@ fn transformer_parts(
     requires study { IsLawful study.now }
     requires transformer { IsLawfulTransformer study.now.buses transformer.now }
     requires next { next ≤ MAX_NODES }
-    ensures value { IfOk result (λ parts. exact_parts parts ≡ transformer_in study.now transformer.now owner next sequence) }
-    ensures small { IfOk result (λ parts. HaveSmallLaws (exact_parts parts).branches) }
+    ensures { IfOk result (λ parts. exact_parts parts ≡ transformer_expansion study.now transformer.now owner sequence next) }
 {
     match sequence {
         Sequence::Positive => positive_parts(alloc, study, transformer, owner),
@@ -70,7 +64,6 @@ fn transformer_parts(
 /// through where both sides are grounded, a way to ground at its grounded side where the other is in delta, each behind three times the
 /// impedance of a grounded side's neutral, and else nothing. `TooMany` exactly where the network would have more than `MAX_NODES` nodes or
 /// more than `MAX_BRANCHES` branches. A refusal leaves the network as it was. (Arrillaga and Watson, Power System Harmonics.)
-#[tactic(auto, unfolding(crate::specs::Transformers::transformer_expansion))]
 pub fn add_transformer(
     alloc: Global,
     network: &mut Network,
@@ -83,16 +76,8 @@ pub fn add_transformer(
     requires transformer { IsLawfulTransformer study.now.buses transformer.now }
     requires buses { network.old.buses ≡ length study.now.buses }
     requires whole { IsWholeNetwork network.old }
-    ensures appended { OnOk result (exact_network network.new ≡ with_element (exact_network network.old) (transformer_expansion study.now transformer.now owner sequence network.old.nodes)) }
-    ensures fits { OnOk result (IsFalse (is_too_large (with_element (exact_network network.old) (transformer_expansion study.now transformer.now owner sequence network.old.nodes)))) }
-    ensures too_many { IfErr result (λ fault. fault ≢ NoMemory → IsTrue (is_too_large (with_element (exact_network network.old) (transformer_expansion study.now transformer.now owner sequence network.old.nodes)))) }
-    ensures small { OnOk result (HaveSmallLaws (transformer_expansion study.now transformer.now owner sequence network.old.nodes).branches) }
-    ensures uncoupled { OnOk result (AllByRecursion IsUncoupled (transformer_expansion study.now transformer.now owner sequence network.old.nodes).branches) }
-    ensures unchanged { OnErr result (network.new ≡ network.old) }
-    ensures whole { IsWholeNetwork network.new }
+    ensures { Adds network.old network.new result (transformer_expansion study.now transformer.now owner sequence network.old.nodes) }
 {
-    match transformer_parts(alloc, study, transformer, owner, sequence, network.nodes) {
-        Ok(parts) => add_plain(alloc, network, parts.inner, parts.branches),
-        Err(_) => Err(AddFault::NoMemory),
-    }
+    let parts = transformer_parts(alloc, study, transformer, owner, sequence, network.nodes);
+    add_plain(alloc, network, parts)
 }

@@ -5,14 +5,13 @@ ghost use Rattle.exact_fraction.specs.Fraction.{ratio_of};
 ghost use Rattle.study_model.specs.Lawful.{IsLawful, IsLawfulTransformer};
 ghost use Rattle.study_model.specs.declared.words.Connection.TheVariants.{Grounded, Delta};
 ghost use Rattle.net_branch.specs.declared.limits.TheConstants.{MAX_NODES};
-ghost use Rattle.element_parts.specs.Small.{AreSmallLaws, HaveSmallLaws};
 ghost use Rattle.transformer_model.specs.Transformers.{both_grounded, one_grounded, neutral_laws, zero_transformer};
 ghost use Rattle.element_parts.specs.Parts.{exact_parts};
 ghost use Rattle.transformer_model.specs.NeutralLaws.{laws_of};
 
 use crate::leakage::{winding, windings};
 use crate::neutral::{inner_nodes, neutral_law, node_behind, push_neutral};
-use element_parts::{Parts, inverse_ratio};
+use element_parts::{Parts, inverse_ratio, open_circuit};
 use exact_fraction::Fraction;
 use net_branch::Law;
 use sqlite_items::Items;
@@ -21,7 +20,6 @@ use study_model::{Connection, Study, Transformer};
 
 /// A transformer of two grounded sides: the neutrals of the from side and of the to side where these have an impedance, then the windings
 /// between the nodes behind them. `next` is the number of the first inner node.
-#[tactic(auto, using(crate::proofs::Small::small_push))]
 fn both_grounded(
     alloc: Global,
     study: &Study,
@@ -34,10 +32,7 @@ fn both_grounded(
     requires mva { pos 1 ≤ℤ transformer.now.mva }
     requires ratio { pos 1 ≤ℤ transformer.now.ratio }
     requires next { next ≤ MAX_NODES }
-    requires from { AreSmallLaws (laws_of from) }
-    requires to { AreSmallLaws (laws_of to) }
-    ensures value { IfOk result (λ parts. exact_parts parts ≡ both_grounded study.now transformer.now owner next (laws_of from) (laws_of to)) }
-    ensures small { IfOk result (λ parts. HaveSmallLaws (exact_parts parts).branches) }
+    ensures { IfOk result (λ parts. exact_parts parts ≡ both_grounded study.now transformer.now owner next (laws_of from) (laws_of to)) }
 {
     let second = next + inner_nodes(from);
     let mut branches = Items::new(alloc);
@@ -54,7 +49,6 @@ fn both_grounded(
 
 /// A transformer with one grounded side, at `bus`, the other in delta: the neutral of the grounded side where that has an impedance, then
 /// its winding from the node behind it to ground. `next` is the number of the first inner node.
-#[tactic(auto, using(crate::proofs::Small::small_push))]
 fn one_grounded(
     alloc: Global,
     study: &Study,
@@ -66,9 +60,7 @@ fn one_grounded(
     law: Option<Law>,
 ) -> Result<Parts, AllocError>
     requires mva { pos 1 ≤ℤ transformer.now.mva }
-    requires law { AreSmallLaws (laws_of law) }
-    ensures value { IfOk result (λ parts. exact_parts parts ≡ one_grounded study.now transformer.now owner next bus (ratio_of ratio) (laws_of law)) }
-    ensures small { IfOk result (λ parts. HaveSmallLaws (exact_parts parts).branches) }
+    ensures { IfOk result (λ parts. exact_parts parts ≡ one_grounded study.now transformer.now owner next bus (ratio_of ratio) (laws_of law)) }
 {
     let mut branches = Items::new(alloc);
     push_neutral(alloc, &mut branches, bus, next, law, owner)?;
@@ -93,8 +85,7 @@ fn one() -> Fraction
 fn from_neutral(study: &Study, transformer: &Transformer) -> Option<Law>
     requires study { IsLawful study.now }
     requires transformer { IsLawfulTransformer study.now.buses transformer.now }
-    ensures value { laws_of result ≡ neutral_laws study.now transformer.now transformer.now.from transformer.now.from_rn transformer.now.from_xn }
-    ensures small { AreSmallLaws (laws_of result) }
+    ensures { laws_of result ≡ neutral_laws study.now transformer.now transformer.now.from transformer.now.from_rn transformer.now.from_xn }
 {
     neutral_law(
         study,
@@ -110,8 +101,7 @@ fn from_neutral(study: &Study, transformer: &Transformer) -> Option<Law>
 fn to_neutral(study: &Study, transformer: &Transformer) -> Option<Law>
     requires study { IsLawful study.now }
     requires transformer { IsLawfulTransformer study.now.buses transformer.now }
-    ensures value { laws_of result ≡ neutral_laws study.now transformer.now transformer.now.to transformer.now.to_rn transformer.now.to_xn }
-    ensures small { AreSmallLaws (laws_of result) }
+    ensures { laws_of result ≡ neutral_laws study.now transformer.now transformer.now.to transformer.now.to_rn transformer.now.to_xn }
 {
     neutral_law(
         study,
@@ -133,8 +123,7 @@ fn through(
     requires study { IsLawful study.now }
     requires transformer { IsLawfulTransformer study.now.buses transformer.now }
     requires next { next ≤ MAX_NODES }
-    ensures value { IfOk result (λ parts. exact_parts parts ≡ zero_transformer study.now transformer.now owner next Grounded Grounded) }
-    ensures small { IfOk result (λ parts. HaveSmallLaws (exact_parts parts).branches) }
+    ensures { IfOk result (λ parts. exact_parts parts ≡ zero_transformer study.now transformer.now owner next Grounded Grounded) }
 {
     let from = from_neutral(study, transformer);
     let to = to_neutral(study, transformer);
@@ -151,8 +140,7 @@ fn from_grounded(
 ) -> Result<Parts, AllocError>
     requires study { IsLawful study.now }
     requires transformer { IsLawfulTransformer study.now.buses transformer.now }
-    ensures value { IfOk result (λ parts. exact_parts parts ≡ zero_transformer study.now transformer.now owner next Grounded Delta) }
-    ensures small { IfOk result (λ parts. HaveSmallLaws (exact_parts parts).branches) }
+    ensures { IfOk result (λ parts. exact_parts parts ≡ zero_transformer study.now transformer.now owner next Grounded Delta) }
 {
     let law = from_neutral(study, transformer);
     let ratio = inverse_ratio(transformer.ratio);
@@ -178,8 +166,7 @@ fn to_grounded(
 ) -> Result<Parts, AllocError>
     requires study { IsLawful study.now }
     requires transformer { IsLawfulTransformer study.now.buses transformer.now }
-    ensures value { IfOk result (λ parts. exact_parts parts ≡ zero_transformer study.now transformer.now owner next Delta Grounded) }
-    ensures small { IfOk result (λ parts. HaveSmallLaws (exact_parts parts).branches) }
+    ensures { IfOk result (λ parts. exact_parts parts ≡ zero_transformer study.now transformer.now owner next Delta Grounded) }
 {
     let law = to_neutral(study, transformer);
     one_grounded(
@@ -205,8 +192,7 @@ pub fn zero_parts(
     requires study { IsLawful study.now }
     requires transformer { IsLawfulTransformer study.now.buses transformer.now }
     requires next { next ≤ MAX_NODES }
-    ensures value { IfOk result (λ parts. exact_parts parts ≡ zero_transformer study.now transformer.now owner next transformer.now.from_conn transformer.now.to_conn) }
-    ensures small { IfOk result (λ parts. HaveSmallLaws (exact_parts parts).branches) }
+    ensures { IfOk result (λ parts. exact_parts parts ≡ zero_transformer study.now transformer.now owner next transformer.now.from_conn transformer.now.to_conn) }
 {
     match (transformer.from_conn, transformer.to_conn) {
         (Connection::Grounded, Connection::Grounded) => {
@@ -218,9 +204,6 @@ pub fn zero_parts(
         (Connection::Delta, Connection::Grounded) => {
             to_grounded(alloc, study, transformer, owner, next)
         }
-        _ => Ok(Parts {
-            inner: 0,
-            branches: Items::new(alloc),
-        }),
+        _ => Ok(open_circuit(alloc)),
     }
 }

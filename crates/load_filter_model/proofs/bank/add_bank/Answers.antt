@@ -1,8 +1,10 @@
-use Rattle.load_filter_model.specs.Presence.{is_present}
-use Rattle.load_filter_model.proofs.NotZero.{bank_not_zero}
+use Rattle.element_parts.proofs.Adding.{plain_parts, room}
+use Rattle.load_filter_model.proofs.Sound.{bank_sound}
 use Rattle.load_filter_model.proofs.bank.add_bank.Goals as goal
 
-pub add_grounded-requires-clause-laws : goal.add_grounded-requires-clause-laws
-add_grounded-requires-clause-laws c =
-    let bank = c.args.bank.now in
-    rw (c.as_slice.ensures, c.in-Ok.ensures.value) (bank_not_zero (is_present c.args.sequence bank.grounded bank.phase) bank.q c.args.study.now.mva c.requires.bank.q.0)
+pub add_plain-requires-clause-plain : goal.add_plain-requires-clause-plain
+add_plain-requires-clause-plain c =
+    plain_parts _ _ _ _ c.bank_parts-parts.ensures (bank_sound _ _ _ _ _ c.requires.study c.requires.bank (room _ _ c.requires.whole c.requires.buses))
+
+pub returns : goal.returns
+returns c = c.add_plain.ensures _ c.bank_parts-parts.ensures

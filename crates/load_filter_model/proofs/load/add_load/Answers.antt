@@ -1,11 +1,10 @@
-use Rattle.std.proofs.Common.{pos, ◌≤ℤ◌, arith}
-use Rattle.std.proofs.lemmas.Int.{ints}
-use Rattle.element_parts.proofs.PlainLaws.{plain_if}
-use Rattle.load_filter_model.proofs.NotZero.{load_not_zero}
+use Rattle.element_parts.proofs.Adding.{plain_parts, room}
+use Rattle.load_filter_model.proofs.Sound.{load_sound}
 use Rattle.load_filter_model.proofs.load.add_load.Goals as goal
 
-pub add_grounded-requires-clause-laws : goal.add_grounded-requires-clause-laws
-add_grounded-requires-clause-laws c =
-    let base : pos 1 ≤ℤ c.args.study.now.mva = omega (arith, ints, c.requires.study.mva.0) in
-    let load = c.args.load.now in
-    rw (c.as_slice.ensures, c.in-Ok.ensures.value) (plain_if _ _ (load_not_zero _ _ load.model load.p load.q load.r load.x base c.requires.load.r_x))
+pub add_plain-requires-clause-plain : goal.add_plain-requires-clause-plain
+add_plain-requires-clause-plain c =
+    plain_parts _ _ _ _ c.load_parts-parts.ensures (load_sound _ _ _ _ _ c.requires.study c.requires.load (room _ _ c.requires.whole c.requires.buses))
+
+pub returns : goal.returns
+returns c = c.add_plain.ensures _ c.load_parts-parts.ensures

@@ -1,9 +1,10 @@
-use Rattle.std.proofs.Common.{pos, ◌≤ℤ◌, arith}
-use Rattle.std.proofs.lemmas.Int.{ints}
-use Rattle.load_filter_model.proofs.NotZero.{source_not_zero}
+use Rattle.element_parts.proofs.Adding.{plain_parts, room}
+use Rattle.load_filter_model.proofs.Sound.{source_sound}
 use Rattle.load_filter_model.proofs.source.add_source.Goals as goal
 
-pub add_grounded-requires-clause-laws : goal.add_grounded-requires-clause-laws
-add_grounded-requires-clause-laws c =
-    let base : pos 1 ≤ℤ c.args.study.now.mva = omega (arith, ints, c.requires.study.mva.0) in
-    rw (c.as_slice.ensures, c.in-Ok.ensures.value) (source_not_zero c.args.study.now c.args.source.now c.args.sequence base c.requires.source)
+pub add_plain-requires-clause-plain : goal.add_plain-requires-clause-plain
+add_plain-requires-clause-plain c =
+    plain_parts _ _ _ _ c.source_parts-parts.ensures (source_sound _ _ _ _ _ c.requires.study c.requires.source (room _ _ c.requires.whole c.requires.buses))
+
+pub returns : goal.returns
+returns c = c.add_plain.ensures _ c.source_parts-parts.ensures

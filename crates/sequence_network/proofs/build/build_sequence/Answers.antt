@@ -1,96 +1,51 @@
-use Rattle.std.proofs.Common.{◌≡◌, ◌∙◌, [], sym, ap, subst, append-nil}
+use Rattle.std.proofs.Common.{◌∙◌, ◌<◌, length, ap, arith}
 use Rattle.std.proofs.lemmas.Result.{err_from_is_err_and}
-use Rattle.std.specs.List.{AllByRecursion}
-use Rattle.network_theory.specs.Network.{Network, IsUncoupled}
-use Rattle.net_branch.specs.Exact.{exact_network}
-use Rattle.element_parts.specs.Small.{HaveSmallLaws}
-use Rattle.sequence_network.specs.Networks.{with_elements, network_of}
-use Rattle.sequence_network.proofs.Growth.{along, start_of, from_lines, from_transformers, from_loads, from_banks, from_filters, not_too_large}
+use Rattle.network_theory.specs.Network.{Network}
+use Rattle.net_branch.specs.declared.network.Network.{Network as BuiltNetwork}
+use Rattle.study_model.specs.Elements.{elements_of}
+use Rattle.sequence_network.specs.Networks.{network_of}
+use Rattle.sequence_network.proofs.Branches.{network_small, network_uncoupled}
+use Rattle.sequence_network.proofs.Growth.{start_of, next_of, one_more, large_element, all_added, not_too_large}
+use Rattle.sequence_network.proofs.Owners.{network_owned}
 use Rattle.sequence_network.proofs.build.build_sequence.Goals as goal
 
-pub returns-in_err-line-clause-too_many : goal.returns-in_err-line-clause-too_many
-returns-in_err-line-clause-too_many c =
+pub loop-place-init : goal.loop-place-init
+loop-place-init c = record {
+  buses = ap (λ (n : BuiltNetwork). n.buses) c.in-Ok.ensures.made ∙ c.len-buses.ensures;
+  whole = c.in-Ok.ensures.whole;
+  to_come = start_of c.args.study.now c.args.sequence c.in-Ok.network c.len-buses.result c.in-Ok.ensures.made c.len-buses.ensures;
+}
+
+pub loop-place-preserved : goal.loop-place-preserved
+loop-place-preserved c =
+    let study = c.args.study.now in
+    let within : c.loop-place.place < length (elements_of study) = omega (arith, c.loop-place-test.true, c.element_count-place-end.ensures.count) in
+    let next = next_of (elements_of study) c.loop-place.place within in
+    let added = c.in_ok-add_element.ensures next.element next.there in
+    record {
+      buses = ap (λ (n : Network). n.buses) added.appended ∙ c.loop-place.invariant.buses;
+      whole = added.whole;
+      to_come = one_more study c.args.sequence _ _ _ c.loop-place.place next added.appended c.loop-place.invariant.to_come;
+    }
+
+pub returns-in_err-add_element-clause-too_many : goal.returns-in_err-add_element-clause-too_many
+returns-in_err-add_element-clause-too_many c =
     let p = err_from_is_err_and c.from_residual.result c.from_residual.ensures.1 in
     let study = c.args.study.now in
-    let start = start_of study c.args.sequence c.in-Ok.network c.len-buses.result c.in-Ok.ensures.made c.len-buses.ensures in
-    rw (p.1, p.2) (λ h. along _ _ start (c.in_err-line.ensures.too_many h (from_lines study)))
-
-pub returns-in_err-transformer-clause-too_many : goal.returns-in_err-transformer-clause-too_many
-returns-in_err-transformer-clause-too_many c =
-    let p = err_from_is_err_and c.from_residual-in_err-transformer.result c.from_residual-in_err-transformer.ensures.1 in
-    let study = c.args.study.now in
-    let start = start_of study c.args.sequence c.in-Ok.network c.len-buses.result c.in-Ok.ensures.made c.len-buses.ensures in
-    let lines = c.in_ok-line.ensures.appended (from_lines study) ∙ start in
-    rw (p.1, p.2) (λ h. along _ _ lines (c.in_err-transformer.ensures.too_many h (from_transformers study)))
-
-pub returns-in_err-load-clause-too_many : goal.returns-in_err-load-clause-too_many
-returns-in_err-load-clause-too_many c =
-    let p = err_from_is_err_and c.from_residual-in_err-load.result c.from_residual-in_err-load.ensures.1 in
-    let study = c.args.study.now in
-    let start = start_of study c.args.sequence c.in-Ok.network c.len-buses.result c.in-Ok.ensures.made c.len-buses.ensures in
-    let lines = c.in_ok-line.ensures.appended (from_lines study) ∙ start in
-    let transformers = c.in_ok-transformer.ensures.appended (from_transformers study) ∙ lines in
-    rw (p.1, p.2) (λ h. along _ _ transformers (c.in_err-load.ensures.too_many h (from_loads study)))
-
-pub returns-in_err-bank-clause-too_many : goal.returns-in_err-bank-clause-too_many
-returns-in_err-bank-clause-too_many c =
-    let p = err_from_is_err_and c.from_residual-in_err-bank.result c.from_residual-in_err-bank.ensures.1 in
-    let study = c.args.study.now in
-    let start = start_of study c.args.sequence c.in-Ok.network c.len-buses.result c.in-Ok.ensures.made c.len-buses.ensures in
-    let lines = c.in_ok-line.ensures.appended (from_lines study) ∙ start in
-    let transformers = c.in_ok-transformer.ensures.appended (from_transformers study) ∙ lines in
-    let loads = c.in_ok-load.ensures.appended (from_loads study) ∙ transformers in
-    rw (p.1, p.2) (λ h. along _ _ loads (c.in_err-bank.ensures.too_many h (from_banks study)))
-
-pub returns-in_err-filter-clause-too_many : goal.returns-in_err-filter-clause-too_many
-returns-in_err-filter-clause-too_many c =
-    let p = err_from_is_err_and c.from_residual-in_err-filter.result c.from_residual-in_err-filter.ensures.1 in
-    let study = c.args.study.now in
-    let start = start_of study c.args.sequence c.in-Ok.network c.len-buses.result c.in-Ok.ensures.made c.len-buses.ensures in
-    let lines = c.in_ok-line.ensures.appended (from_lines study) ∙ start in
-    let transformers = c.in_ok-transformer.ensures.appended (from_transformers study) ∙ lines in
-    let loads = c.in_ok-load.ensures.appended (from_loads study) ∙ transformers in
-    let banks = c.in_ok-bank.ensures.appended (from_banks study) ∙ loads in
-    rw (p.1, p.2) (λ h. along _ _ banks (c.in_err-filter.ensures.too_many h (from_filters study)))
-
-pub returns-in_err-add_section-clause-too_many : goal.returns-in_err-add_section-clause-too_many
-returns-in_err-add_section-clause-too_many c =
-    let p = err_from_is_err_and c.from_residual-in_err-add_section.result c.from_residual-in_err-add_section.ensures.1 in
-    let study = c.args.study.now in
-    let start = start_of study c.args.sequence c.in-Ok.network c.len-buses.result c.in-Ok.ensures.made c.len-buses.ensures in
-    let lines = c.in_ok-line.ensures.appended (from_lines study) ∙ start in
-    let transformers = c.in_ok-transformer.ensures.appended (from_transformers study) ∙ lines in
-    let loads = c.in_ok-load.ensures.appended (from_loads study) ∙ transformers in
-    let banks = c.in_ok-bank.ensures.appended (from_banks study) ∙ loads in
-    let filters = c.in_ok-filter.ensures.appended (from_filters study) ∙ banks in
-    let last = ap (with_elements study c.args.sequence (exact_network c.add_section-5.new.network) c.in_ok-filter.filter) (append-nil (from_filters study)) in
-    rw (p.1, p.2) (λ h. along _ _ (last ∙ filters) (c.in_err-add_section.ensures.too_many h []))
-
--- the network is the study's
-built : (c : goal.In_ok-add_section) → exact_network c.add_section-6.new.network ≡ network_of c.args.study.now c.args.sequence
-built c =
-    let study = c.args.study.now in
-    let start = start_of study c.args.sequence c.in-Ok.network c.len-buses.result c.in-Ok.ensures.made c.len-buses.ensures in
-    let lines = c.in_ok-line.ensures.appended (from_lines study) ∙ start in
-    let transformers = c.in_ok-transformer.ensures.appended (from_transformers study) ∙ lines in
-    let loads = c.in_ok-load.ensures.appended (from_loads study) ∙ transformers in
-    let banks = c.in_ok-bank.ensures.appended (from_banks study) ∙ loads in
-    let filters = c.in_ok-filter.ensures.appended (from_filters study) ∙ banks in
-    let last = ap (with_elements study c.args.sequence (exact_network c.add_section-5.new.network) c.in_ok-filter.filter) (append-nil (from_filters study)) in
-    c.in_ok-add_section.ensures.appended [] ∙ last ∙ filters
+    let within : c.loop-place.place < length (elements_of study) = omega (arith, c.loop-place-test.true, c.element_count-place-end.ensures.count) in
+    let next = next_of (elements_of study) c.loop-place.place within in
+    let added = c.in_err-add_element.ensures next.element next.there in
+    rw (p.1, p.2) (λ h. large_element study c.args.sequence _ _ c.loop-place.place next (added.too_many h) c.loop-place.invariant.to_come)
 
 pub returns-clause-network : goal.returns-clause-network
-returns-clause-network c = built c
-
-pub returns-clause-small : goal.returns-clause-small
-returns-clause-small c =
-    let none : HaveSmallLaws (exact_network c.in-Ok.network).branches = subst (λ (n : Network). HaveSmallLaws n.branches) (sym (ap exact_network c.in-Ok.ensures.made)) tt in
-    subst (λ (n : Network). HaveSmallLaws n.branches) (built c) (c.in_ok-add_section.ensures.small (c.in_ok-filter.ensures.small (c.in_ok-bank.ensures.small (c.in_ok-load.ensures.small (c.in_ok-transformer.ensures.small (c.in_ok-line.ensures.small none))))))
-
-pub returns-clause-uncoupled : goal.returns-clause-uncoupled
-returns-clause-uncoupled c =
-    let none : AllByRecursion IsUncoupled (exact_network c.in-Ok.network).branches = subst (λ (n : Network). AllByRecursion IsUncoupled n.branches) (sym (ap exact_network c.in-Ok.ensures.made)) tt in
-    subst (λ (n : Network). AllByRecursion IsUncoupled n.branches) (built c) (c.in_ok-add_section.ensures.uncoupled (c.in_ok-filter.ensures.uncoupled (c.in_ok-bank.ensures.uncoupled (c.in_ok-load.ensures.uncoupled (c.in_ok-transformer.ensures.uncoupled (c.in_ok-line.ensures.uncoupled none))))))
-
-pub returns-clause-fits : goal.returns-clause-fits
-returns-clause-fits c = not_too_large c.add_section-6.new.network (network_of c.args.study.now c.args.sequence) c.in_ok-add_section.ensures.whole.limits (built c)
+returns-clause-network c =
+    let study = c.args.study.now in
+    let exact = all_added study c.args.sequence _ _ c.loop-place.place (omega (arith, c.loop-place-test.false, c.element_count-place-end.ensures.count)) c.loop-place.invariant.to_come in
+    record {
+      exact = exact;
+      whole = c.loop-place.invariant.whole;
+      fits = not_too_large c.loop-place.network (network_of study c.args.sequence) c.loop-place.invariant.whole.limits exact;
+      small = network_small study c.args.sequence c.requires;
+      uncoupled = network_uncoupled study c.args.sequence c.requires;
+      owners = network_owned study c.args.sequence c.requires;
+    }
