@@ -12,7 +12,7 @@ ghost use Rattle.study_reader.specs.Sections.{entries_fault, entries_of, section
 ghost use Rattle.study_reader.specs.StudyOf.{at_most, some_buses, plant_fault, plant_names, plant_value, with_elements, plant_elements, sections_fault, study_fault, study_value, IsStudy, Refused};
 ghost use Rattle.study_model.specs.declared.limits.TheConstants.{MAX_NAMES, MAX_ALL_ELEMENTS};
 
-use crate::arrays::{Occurrence, are_sections, array};
+use crate::arrays::{Occurrence, array, known_sections};
 use crate::built::is_built;
 use crate::context::Context;
 use crate::elements::elements_of;
@@ -242,25 +242,7 @@ fn study_of(alloc: Global, table: Table) -> Result<Study, StudyFault>
     ensures built { IfOk result IsBuilt }
     ensures read { ReadsInMemory result (study_fault (table_view table)) (study_value (table_data (table_view table))) }
 {
-    let sections = [
-        Section::Study,
-        Section::Bus,
-        Section::Source,
-        Section::Line,
-        Section::Transformer,
-        Section::Load,
-        Section::Bank,
-        Section::Filter,
-        Section::Scan,
-        Section::Pcc,
-    ];
-    if !are_sections(&sections, &table) {
-        return Err(StudyFault::UnknownKey(Place {
-            section: Section::Top,
-            entry: 0,
-            key: Key::Nothing,
-        }));
-    }
+    known_sections(&table)?;
     let study = built_study(alloc, &Value::Table(table))?;
     Ok(study)
 }
