@@ -1,8 +1,6 @@
 // The sections of a document, and the arrays of their entries.
-ghost use Rattle.std.specs.Prelude.{◌≡◌, ◌≤◌, false, Some, length, option_map, IfOk, OnOk};
-ghost use Rattle.toml.specs.Data.{get};
+ghost use Rattle.std.specs.Prelude.{◌≡◌, ◌≤◌, Some, length, option_map, IfOk, OnOk};
 ghost use Rattle.toml.specs.View.{view, items_view, table_view};
-ghost use Rattle.study_model.specs.Words.{section_text};
 ghost use Rattle.study_reader.specs.Checks.{Reads, ReadsBy, place_of};
 ghost use Rattle.study_reader.specs.Sections.{is_section, are_sections, top_fault, section_in, array_check, array_fault, items_in, count_fault, count_items};
 ghost use Rattle.study_model.specs.declared.fault.Key.TheVariants.{Nothing};
