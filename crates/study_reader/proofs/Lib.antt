@@ -1,5 +1,6 @@
 pub mod Counts
 pub mod Rules
+pub mod EntryNames
 pub mod Fresh
 pub mod PlantElements
 pub mod Sound

@@ -30,7 +30,7 @@ use Rattle.study_reader.specs.Built.{IsBuilt, unbuilt}
 use Rattle.study_reader.specs.Branches.{line_entry_fault, line_entry, transformer_entry_fault, transformer_entry}
 use Rattle.study_reader.specs.Checks.{first_fault, unless, place_of, name_value, at, decimal_fault, default_fault, version_fault, scale_fault, word_fault, keys_fault}
 use Rattle.study_reader.specs.Entries.{bus_entry_fault, bus_entry, source_entry_fault, source_entry, bank_entry_fault, bank_entry, filter_entry_fault, filter_entry, scan_entry_fault, scan_entry}
-use Rattle.study_reader.specs.EntryNames.{bus_named, source_named, line_named, transformer_named, load_named, bank_named, filter_named, scan_named, point_named}
+use Rattle.study_reader.proofs.EntryNames.{bus_named, source_named, line_named, transformer_named, load_named, bank_named, filter_named, scan_named, point_named}
 use Rattle.study_reader.specs.Header.{header_fault, header_value, study_section_fault, study_section_value, built_method_of, study_keys}
 use Rattle.study_reader.specs.Lawful.{IsFresh, Ends, IsLawfulHeader, IsLawfulPoint, IsLawfulPlant, names_in}
 use Rattle.study_reader.specs.Loads.{load_entry_fault, load_entry}

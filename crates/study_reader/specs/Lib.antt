@@ -6,7 +6,6 @@ pub mod Entries
 pub mod Loads
 pub mod Branches
 pub mod Points
-pub mod EntryNames
 pub mod Lawful
 pub mod Built
 pub mod StudyOf

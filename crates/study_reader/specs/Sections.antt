@@ -5,9 +5,10 @@ use Rattle.toml.specs.Data.{Data, Items, no_items, item, Members, no_members, me
 use Rattle.study_model.specs.Words.{section_text}
 use Rattle.study_model.specs.declared.fault.Place.{Place}
 use Rattle.study_model.specs.declared.fault.Section.{Section}
+use Rattle.study_model.specs.declared.fault.Section.TheVariants as section
 use Rattle.study_model.specs.declared.fault.Key.TheVariants as key
 use Rattle.study_model.specs.declared.fault.StudyFault.{StudyFault}
-use Rattle.study_model.specs.declared.fault.StudyFault.TheVariants.{MissingKey, WrongKind, TooMany}
+use Rattle.study_model.specs.declared.fault.StudyFault.TheVariants.{MissingKey, UnknownKey, WrongKind, TooMany}
 use Rattle.study_reader.specs.Checks.{first_fault, place_of, unless, name_value}
 use Rattle.study_reader.specs.declared.arrays.Occurrence.{Occurrence}
 use Rattle.study_reader.specs.declared.context.Context.{Context}
@@ -15,12 +16,20 @@ use Rattle.study_reader.specs.declared.context.Context.{Context}
 -- the word of a section that is listed
 abbrev pub is_section : List Section → List ℕ → Bool
 is_section [] name = false
-is_section (section ∷ sections) name = bytes_eq (section_text section) name || is_section sections name
+is_section (s ∷ sections) name = bytes_eq (section_text s) name || is_section sections name
 
 -- every key of a document is the word of one of these sections
 abbrev pub are_sections : List Section → Members → Bool
 are_sections sections no_members = true
 are_sections sections (member name value rest) = is_section sections name && are_sections sections rest
+
+-- the sections that a study may have
+abbrev pub all_sections : List Section
+all_sections = section.Study ∷ section.Bus ∷ section.Source ∷ section.Line ∷ section.Transformer ∷ section.Load ∷ section.Bank ∷ section.Filter ∷ section.Scan ∷ section.Pcc ∷ []
+
+-- a document has no section that isn't one of them
+unfoldable pub top_fault : Members → Option StudyFault
+top_fault ms = unless (are_sections all_sections ms) (UnknownKey (place_of section.Top 0 key.Nothing))
 
 -- the value at the word of a section
 abbrev pub section_in : Section → Data → Option Data

@@ -7,13 +7,12 @@ use Rattle.study_model.specs.Elements.{StudyElement, of_source, of_line, of_tran
 use Rattle.study_model.specs.declared.limits.TheConstants.{MAX_BUSES, MAX_ELEMENTS, MAX_SCANS, MAX_POINTS}
 use Rattle.study_model.specs.declared.fault.Section.{Section}
 use Rattle.study_model.specs.declared.fault.Section.TheVariants as section
-use Rattle.study_model.specs.declared.fault.Key.TheVariants as key
 use Rattle.study_model.specs.declared.fault.StudyFault.{StudyFault}
-use Rattle.study_model.specs.declared.fault.StudyFault.TheVariants.{NotToml, UnknownKey}
+use Rattle.study_model.specs.declared.fault.StudyFault.TheVariants.{NotToml}
 use Rattle.study_model.specs.declared.records.Study.{Study}
-use Rattle.study_reader.specs.Checks.{first_fault, place_of, unless}
+use Rattle.study_reader.specs.Checks.{first_fault}
 use Rattle.study_reader.specs.Header.{study_section_fault, study_section_value}
-use Rattle.study_reader.specs.Sections.{section_in, are_sections, section_fault, section_value, section_names}
+use Rattle.study_reader.specs.Sections.{section_in, top_fault, section_fault, section_value, section_names}
 use Rattle.study_reader.specs.Entries.{bus_entry_fault, bus_entry, source_entry_fault, source_entry, bank_entry_fault, bank_entry, filter_entry_fault, filter_entry, scan_entry_fault, scan_entry}
 use Rattle.study_reader.specs.Branches.{line_entry_fault, line_entry, transformer_entry_fault, transformer_entry}
 use Rattle.study_reader.specs.Loads.{load_entry_fault, load_entry}
@@ -104,10 +103,6 @@ sections_fault document =
     section_fault point_entry_fault (at_most section.Pcc MAX_POINTS) (with_elements (context_of document) (plant_value (context_of document) document))
     (plant_names buses document ++ section_names section.Scan document) document ∷ [])
 
--- the sections that a study may have
-abbrev pub all_sections : List Section
-all_sections = section.Study ∷ section.Bus ∷ section.Source ∷ section.Line ∷ section.Transformer ∷ section.Load ∷ section.Bank ∷ section.Filter ∷ section.Scan ∷ section.Pcc ∷ []
-
 -- the study of a document without a fault
 unfoldable pub study_value : Data → Study
 study_value document =
@@ -135,7 +130,7 @@ study_value document =
 -- all checks of a document: its sections' words, its sections in order, and the forms that aren't built
 unfoldable pub study_fault : Members → Option StudyFault
 study_fault ms = first_fault (
-    unless (are_sections all_sections ms) (UnknownKey (place_of section.Top 0 key.Nothing)) ∷
+    top_fault ms ∷
     sections_fault (table ms) ∷
     unbuilt (study_value (table ms)) ∷ [])
 

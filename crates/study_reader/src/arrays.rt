@@ -1,10 +1,8 @@
 // The sections of a document, and the arrays of their entries.
-ghost use Rattle.std.specs.Prelude.{◌≡◌, ◌≤◌, false, Some, length, option_map, IfOk, OnOk};
-ghost use Rattle.toml.specs.Data.{get};
+ghost use Rattle.std.specs.Prelude.{◌≡◌, ◌≤◌, Some, length, option_map, IfOk, OnOk};
 ghost use Rattle.toml.specs.View.{view, items_view, table_view};
-ghost use Rattle.study_model.specs.Words.{section_text};
 ghost use Rattle.study_reader.specs.Checks.{Reads, ReadsBy, place_of};
-ghost use Rattle.study_reader.specs.Sections.{is_section, are_sections, section_in, array_check, array_fault, items_in, count_fault, count_items};
+ghost use Rattle.study_reader.specs.Sections.{is_section, are_sections, top_fault, section_in, array_check, array_fault, items_in, count_fault, count_items};
 ghost use Rattle.study_model.specs.declared.fault.Key.TheVariants.{Nothing};
 
 use study_model::{Key, Place, Section, StudyFault};
@@ -38,7 +36,7 @@ fn is_section(sections: &[Section], name: &str) -> bool
 }
 
 /// Whether the keys of a document are the words of these sections.
-pub(crate) fn are_sections(sections: &[Section], table: &Table) -> bool
+fn are_sections(sections: &[Section], table: &Table) -> bool
     ensures { result ≡ are_sections sections.now (table_view table.now) }
 {
     'members: for (key, _value) in table.iter() {
@@ -47,6 +45,30 @@ pub(crate) fn are_sections(sections: &[Section], table: &Table) -> bool
         }
     }
     true
+}
+
+/// A document has no section that a study hasn't.
+#[tactic(auto, unfolding(crate::specs::Sections::top_fault))]
+pub(crate) fn known_sections(table: &Table) -> Result<(), StudyFault>
+    ensures read { Reads result (top_fault (table_view table.now)) tt }
+{
+    let sections = [
+        Section::Study,
+        Section::Bus,
+        Section::Source,
+        Section::Line,
+        Section::Transformer,
+        Section::Load,
+        Section::Bank,
+        Section::Filter,
+        Section::Scan,
+        Section::Pcc,
+    ];
+    if are_sections(&sections, table) {
+        Ok(())
+    } else {
+        Err(StudyFault::UnknownKey(whole_section(Section::Top)))
+    }
 }
 
 /// The place of a section as a whole.

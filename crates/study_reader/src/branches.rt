@@ -1,18 +1,14 @@
 // The entries of lines and transformers.
-ghost use Rattle.std.specs.Prelude.{◌≡◌, ◌≤◌, ◌≢◌, ◌≤ℤ◌, pos, false, length, IfOk, OnOk};
+ghost use Rattle.std.specs.Prelude.{◌≡◌, ◌≤◌, false, length};
 ghost use Rattle.toml.specs.View.{view};
 ghost use Rattle.study_reader.specs.Checks.{Reads, word_fault};
 ghost use Rattle.study_model.specs.ValueWords.{connection_of};
-ghost use Rattle.study_model.specs.Range.{IsIn};
-ghost use Rattle.study_model.specs.Rules.{AreMutual};
-ghost use Rattle.study_model.specs.Lawful.{IsName, IsBus, HaveEqualKv, IsLawfulLine, IsLawfulTransformer};
-ghost use Rattle.study_model.specs.declared.range.TheConstants.Range.{ORDINARY, BASE_MVA, RESISTANCE_PERCENT, REACTANCE_PERCENT, RATIO};
-ghost use Rattle.study_reader.specs.Lawful.{IsFresh};
-ghost use Rattle.study_reader.specs.Branches.{kv_at, line_ends_fault, at_most_fault, has_mutual, mutual_fault, mutuals, line_front_fault, line_entry_fault, line_entry as line_of, ends, ends_fault, rating_fault, rating, is_grounded, connection_at, neutral_fault, neutral, transformer_front_fault, transformer_entry_fault, transformer_entry as transformer_of};
+ghost use Rattle.study_reader.specs.Branches.{kv_at, line_ends_fault, at_most_fault, has_mutual, mutual_fault, mutuals, line_front_fault, line_entry_fault, line_entry, ends, ends_fault, rating_fault, rating, is_grounded, connection_at, neutral_fault, neutral, transformer_front_fault, transformer_entry_fault, transformer_entry};
 ghost use Rattle.study_model.specs.declared.limits.TheConstants.{MAX_NAMES, MAX_BUSES};
 
 use crate::context::Context;
 use crate::decimals::{decimal, decimal_or, optional_decimal, sections};
+use crate::entry::Entry;
 use crate::groups::{NONE, ONE, impedance_of, in_phases, skin_of, zero_sequence_of};
 use crate::keys::{bus, entry_keys, has, key_of, name, not_stray};
 use crate::words::word;
@@ -131,43 +127,46 @@ fn line_front(
     Ok(Ends { name, from, to })
 }
 
-#[tactic(auto, unfolding(crate::specs::Branches::line_entry_fault, crate::specs::Branches::line_entry))]
-pub(crate) fn line_entry(
-    entry: &Value,
-    place: Place,
-    earlier: &[Name],
-    context: &Context,
-) -> Result<Line, StudyFault>
-    requires earlier { length earlier.now ≤ MAX_NAMES }
-    requires buses { length context.now.buses ≤ MAX_BUSES }
-    ensures read { Reads result (line_entry_fault context.now earlier.now place (view entry.now)) (line_of context.now (view entry.now)) }
-{
-    let ends = line_front(entry, place, earlier, context)?;
-    let impedance = impedance_of(entry, place)?;
-    let b = decimal_or(entry, place, Key::B, Range::ORDINARY, NONE)?;
-    let zero = zero_sequence_of(entry, place, in_phases(context.model))?;
-    let b0 = decimal_or(entry, place, Key::B0, Range::ORDINARY, NONE)?;
-    at_most(place, Key::B0, b0, b)?;
-    let sections = sections(entry, place)?;
-    let mutual = mutual_of(entry, place, context.model)?;
-    let skin = skin_of(entry, place)?;
-    Ok(Line {
-        name: ends.name,
-        from: ends.from,
-        to: ends.to,
-        r: impedance.r,
-        x: impedance.x,
-        b,
-        r0: zero.r0,
-        x0: zero.x0,
-        b0,
-        sections,
-        xab: mutual.xab,
-        xbc: mutual.xbc,
-        xca: mutual.xca,
-        skin_k: skin.k,
-        skin_m: skin.m,
-    })
+impl Entry for Line {
+    ghost fault = { line_entry_fault };
+
+    ghost value = { line_entry };
+
+    #[tactic(auto, unfolding(crate::specs::Branches::line_entry_fault, crate::specs::Branches::line_entry))]
+    fn read(
+        entry: &Value,
+        place: Place,
+        earlier: &[Name],
+        context: &Context,
+    ) -> Result<(Name, Line), StudyFault> {
+        let ends = line_front(entry, place, earlier, context)?;
+        let impedance = impedance_of(entry, place)?;
+        let b = decimal_or(entry, place, Key::B, Range::ORDINARY, NONE)?;
+        let zero = zero_sequence_of(entry, place, in_phases(context.model))?;
+        let b0 = decimal_or(entry, place, Key::B0, Range::ORDINARY, NONE)?;
+        at_most(place, Key::B0, b0, b)?;
+        let sections = sections(entry, place)?;
+        let mutual = mutual_of(entry, place, context.model)?;
+        let skin = skin_of(entry, place)?;
+        let line = Line {
+            name: ends.name,
+            from: ends.from,
+            to: ends.to,
+            r: impedance.r,
+            x: impedance.x,
+            b,
+            r0: zero.r0,
+            x0: zero.x0,
+            b0,
+            sections,
+            xab: mutual.xab,
+            xbc: mutual.xbc,
+            xca: mutual.xca,
+            skin_k: skin.k,
+            skin_m: skin.m,
+        };
+        Ok((ends.name, line))
+    }
 }
 
 /// The ends of a transformer are two buses.
@@ -278,41 +277,44 @@ fn transformer_front(
     Ok(Ends { name, from, to })
 }
 
-#[tactic(auto, unfolding(crate::specs::Branches::transformer_entry_fault, crate::specs::Branches::transformer_entry))]
-pub(crate) fn transformer_entry(
-    entry: &Value,
-    place: Place,
-    earlier: &[Name],
-    context: &Context,
-) -> Result<Transformer, StudyFault>
-    requires earlier { length earlier.now ≤ MAX_NAMES }
-    requires buses { length context.now.buses ≤ MAX_BUSES }
-    ensures read { Reads result (transformer_entry_fault context.now earlier.now place (view entry.now)) (transformer_of context.now (view entry.now)) }
-{
-    let ends = transformer_front(entry, place, earlier, context)?;
-    let rating = rating_of(entry, place)?;
-    let from_conn = connection_at(entry, place, Key::FromConn)?;
-    let to_conn = connection_at(entry, place, Key::ToConn)?;
-    let keys = (Key::FromRn, Key::FromXn);
-    let from_neutral = neutral_of(entry, place, keys, is_grounded(from_conn))?;
-    let keys = (Key::ToRn, Key::ToXn);
-    let to_neutral = neutral_of(entry, place, keys, is_grounded(to_conn))?;
-    let skin = skin_of(entry, place)?;
-    Ok(Transformer {
-        name: ends.name,
-        from: ends.from,
-        to: ends.to,
-        mva: rating.mva,
-        r: rating.r,
-        x: rating.x,
-        ratio: rating.ratio,
-        from_conn,
-        to_conn,
-        from_rn: from_neutral.r,
-        from_xn: from_neutral.x,
-        to_rn: to_neutral.r,
-        to_xn: to_neutral.x,
-        skin_k: skin.k,
-        skin_m: skin.m,
-    })
+impl Entry for Transformer {
+    ghost fault = { transformer_entry_fault };
+
+    ghost value = { transformer_entry };
+
+    #[tactic(auto, unfolding(crate::specs::Branches::transformer_entry_fault, crate::specs::Branches::transformer_entry))]
+    fn read(
+        entry: &Value,
+        place: Place,
+        earlier: &[Name],
+        context: &Context,
+    ) -> Result<(Name, Transformer), StudyFault> {
+        let ends = transformer_front(entry, place, earlier, context)?;
+        let rating = rating_of(entry, place)?;
+        let from_conn = connection_at(entry, place, Key::FromConn)?;
+        let to_conn = connection_at(entry, place, Key::ToConn)?;
+        let keys = (Key::FromRn, Key::FromXn);
+        let from_neutral = neutral_of(entry, place, keys, is_grounded(from_conn))?;
+        let keys = (Key::ToRn, Key::ToXn);
+        let to_neutral = neutral_of(entry, place, keys, is_grounded(to_conn))?;
+        let skin = skin_of(entry, place)?;
+        let transformer = Transformer {
+            name: ends.name,
+            from: ends.from,
+            to: ends.to,
+            mva: rating.mva,
+            r: rating.r,
+            x: rating.x,
+            ratio: rating.ratio,
+            from_conn,
+            to_conn,
+            from_rn: from_neutral.r,
+            from_xn: from_neutral.x,
+            to_rn: to_neutral.r,
+            to_xn: to_neutral.x,
+            skin_k: skin.k,
+            skin_m: skin.m,
+        };
+        Ok((ends.name, transformer))
+    }
 }

@@ -1,5 +1,4 @@
 // The forms of a study that aren't built yet.
-ghost use Rattle.std.specs.Prelude.{◌≡◌};
 ghost use Rattle.study_reader.specs.Checks.{Reads};
 ghost use Rattle.study_reader.specs.Built.{unbuilt};
 

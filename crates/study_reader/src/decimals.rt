@@ -1,8 +1,7 @@
 // The numbers at the keys of an entry.
-ghost use Rattle.std.specs.Prelude.{◌≡◌, ◌≤◌, ◌⊎◌, true, false, is_some, unsigned_abs, IfOk, IfSome, OnOk};
+ghost use Rattle.std.specs.Prelude.{◌≡◌, unsigned_abs};
 ghost use Rattle.toml.specs.View.{view};
-ghost use Rattle.study_model.specs.Range.{IsIn};
-ghost use Rattle.study_reader.specs.Checks.{Reads, AreNotBothGivenZero, has, range_fault, millionths_of, decimal_check, decimal_in, optional_fault, decimal_fault, default_fault, option_value, decimal_or, decimal_value, is_zero, both_zero_fault, version_fault, scale_fault, scale_value, sections_of, sections_fault, sections_value};
+ghost use Rattle.study_reader.specs.Checks.{Reads, range_fault, millionths_of, decimal_check, decimal_in, optional_fault, decimal_fault, default_fault, option_value, decimal_or, decimal_value, is_zero, both_zero_fault, version_fault, scale_fault, scale_value, sections_of, sections_fault, sections_value};
 
 use crate::keys::{find, key_of};
 use fixed_decimal::Decimal;

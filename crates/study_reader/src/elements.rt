@@ -1,5 +1,5 @@
 // The elements that points of common coupling may name.
-ghost use Rattle.std.specs.Prelude.{◌≡◌, ◌≤◌, ◌+◌, ◌++◌, map, length, OnOk, IfOk};
+ghost use Rattle.std.specs.Prelude.{◌≡◌, ◌+◌, ◌++◌, map, OnOk, IfOk};
 ghost use Rattle.study_model.specs.Elements.{StudyElement, of_source, of_line, of_transformer, of_load, of_bank, of_filter};
 ghost use Rattle.study_reader.specs.StudyOf.{ends_of, plant_elements};
 

@@ -1,17 +1,11 @@
 // The entries of buses, sources, banks, filters and scans.
-ghost use Rattle.std.specs.Prelude.{◌≡◌, ◌≤◌, ◌<◌, ◌≤ℤ◌, ◌<ℤ◌, ◌-ℤ◌, ◌*ℤ◌, pos, length, IfOk, OnOk};
 ghost use Rattle.toml.specs.View.{view};
-ghost use Rattle.study_model.specs.Range.{IsIn};
-ghost use Rattle.study_model.specs.Rules.{IsScanned};
-ghost use Rattle.study_model.specs.Lawful.{IsLawfulBus, IsLawfulSource, IsLawfulBank, IsLawfulFilter, IsLawfulScan};
-ghost use Rattle.study_model.specs.declared.range.TheConstants.Range.{BAND, ABOVE_ZERO, FINEST, LOCATE};
 ghost use Rattle.study_reader.specs.Checks.{Reads};
-ghost use Rattle.study_reader.specs.Entries.{bus_entry_fault, bus_entry as bus_of, source_entry_fault, source_entry as source_of, bank_entry_fault, bank_entry as bank_of, filter_entry_fault, filter_entry as filter_of, scanned_fault, scanned, upwards_fault, widths_fault, locate_fault, band_fault, band, scan_entry_fault, scan_entry as scan_of};
-ghost use Rattle.study_reader.specs.Lawful.{IsFresh};
-ghost use Rattle.study_model.specs.declared.limits.TheConstants.{MAX_NAMES, MAX_BUSES};
+ghost use Rattle.study_reader.specs.Entries.{bus_entry_fault, bus_entry, source_entry_fault, source_entry, bank_entry_fault, bank_entry, filter_entry_fault, filter_entry, scanned_fault, scanned, upwards_fault, widths_fault, locate_fault, band_fault, band, scan_entry_fault, scan_entry};
 
 use crate::context::Context;
 use crate::decimals::{decimal, decimal_or};
+use crate::entry::Entry;
 use crate::groups::{impedance_of, in_phases, skin_of, wiring_of, zero_sequence_of};
 use crate::keys::{bus, entry_keys, key_of, name, not_reserved, not_stray};
 use crate::words::word;
@@ -22,86 +16,96 @@ use study_model::{
 };
 use toml::Value;
 
-#[tactic(auto, unfolding(crate::specs::Entries::bus_entry_fault, crate::specs::Entries::bus_entry))]
-pub(crate) fn bus_entry(
-    entry: &Value,
-    place: Place,
-    earlier: &[Name],
-    context: &Context,
-) -> Result<Bus, StudyFault>
-    requires { length earlier.now ≤ MAX_NAMES }
-    ensures read { Reads result (bus_entry_fault context.now earlier.now place (view entry.now)) (bus_of context.now (view entry.now)) }
-{
-    let keys = [Key::Name, Key::Kv];
-    entry_keys(entry, place, place, &keys)?;
-    let name = name(entry, place, earlier)?;
-    let kv = decimal(entry, place, Key::Kv, Range::BUS_KV)?;
-    Ok(Bus { name, kv })
+impl Entry for Bus {
+    ghost fault = { bus_entry_fault };
+
+    ghost value = { bus_entry };
+
+    #[tactic(auto, unfolding(crate::specs::Entries::bus_entry_fault, crate::specs::Entries::bus_entry))]
+    fn read(
+        entry: &Value,
+        place: Place,
+        earlier: &[Name],
+        context: &Context,
+    ) -> Result<(Name, Bus), StudyFault> {
+        let keys = [Key::Name, Key::Kv];
+        entry_keys(entry, place, place, &keys)?;
+        let name = name(entry, place, earlier)?;
+        let kv = decimal(entry, place, Key::Kv, Range::BUS_KV)?;
+        let bus = Bus { name, kv };
+        Ok((name, bus))
+    }
 }
 
-#[tactic(auto, unfolding(crate::specs::Entries::source_entry_fault, crate::specs::Entries::source_entry))]
-pub(crate) fn source_entry(
-    entry: &Value,
-    place: Place,
-    earlier: &[Name],
-    context: &Context,
-) -> Result<Source, StudyFault>
-    requires earlier { length earlier.now ≤ MAX_NAMES }
-    requires buses { length context.now.buses ≤ MAX_BUSES }
-    ensures read { Reads result (source_entry_fault context.now earlier.now place (view entry.now)) (source_of context.now (view entry.now)) }
-{
-    let keys = [
-        Key::Name,
-        Key::Bus,
-        Key::R,
-        Key::X,
-        Key::R0,
-        Key::X0,
-        Key::SkinK,
-        Key::SkinM,
-    ];
-    entry_keys(entry, place, place, &keys)?;
-    let name = name(entry, place, earlier)?;
-    let bus = bus(entry, place, Key::Bus, context.buses.as_slice())?;
-    let impedance = impedance_of(entry, place)?;
-    let zero = zero_sequence_of(entry, place, false)?;
-    let skin = skin_of(entry, place)?;
-    Ok(Source {
-        name,
-        bus,
-        r: impedance.r,
-        x: impedance.x,
-        r0: zero.r0,
-        x0: zero.x0,
-        skin_k: skin.k,
-        skin_m: skin.m,
-    })
+impl Entry for Source {
+    ghost fault = { source_entry_fault };
+
+    ghost value = { source_entry };
+
+    #[tactic(auto, unfolding(crate::specs::Entries::source_entry_fault, crate::specs::Entries::source_entry))]
+    fn read(
+        entry: &Value,
+        place: Place,
+        earlier: &[Name],
+        context: &Context,
+    ) -> Result<(Name, Source), StudyFault> {
+        let keys = [
+            Key::Name,
+            Key::Bus,
+            Key::R,
+            Key::X,
+            Key::R0,
+            Key::X0,
+            Key::SkinK,
+            Key::SkinM,
+        ];
+        entry_keys(entry, place, place, &keys)?;
+        let name = name(entry, place, earlier)?;
+        let bus = bus(entry, place, Key::Bus, context.buses.as_slice())?;
+        let impedance = impedance_of(entry, place)?;
+        let zero = zero_sequence_of(entry, place, false)?;
+        let skin = skin_of(entry, place)?;
+        let source = Source {
+            name,
+            bus,
+            r: impedance.r,
+            x: impedance.x,
+            r0: zero.r0,
+            x0: zero.x0,
+            skin_k: skin.k,
+            skin_m: skin.m,
+        };
+        Ok((name, source))
+    }
 }
 
-#[tactic(auto, unfolding(crate::specs::Entries::bank_entry_fault, crate::specs::Entries::bank_entry))]
-pub(crate) fn bank_entry(
-    entry: &Value,
-    place: Place,
-    earlier: &[Name],
-    context: &Context,
-) -> Result<Bank, StudyFault>
-    requires earlier { length earlier.now ≤ MAX_NAMES }
-    requires buses { length context.now.buses ≤ MAX_BUSES }
-    ensures read { Reads result (bank_entry_fault context.now earlier.now place (view entry.now)) (bank_of context.now (view entry.now)) }
-{
-    let keys = [Key::Name, Key::Bus, Key::Q, Key::Grounded, Key::Phase];
-    entry_keys(entry, place, place, &keys)?;
-    let name = name(entry, place, earlier)?;
-    let bus = bus(entry, place, Key::Bus, context.buses.as_slice())?;
-    let q = decimal(entry, place, Key::Q, Range::ABOVE_ZERO)?;
-    let wiring = wiring_of(entry, place, context.model)?;
-    Ok(Bank {
-        name,
-        bus,
-        q,
-        grounded: wiring.grounded,
-        phase: wiring.phase,
-    })
+impl Entry for Bank {
+    ghost fault = { bank_entry_fault };
+
+    ghost value = { bank_entry };
+
+    #[tactic(auto, unfolding(crate::specs::Entries::bank_entry_fault, crate::specs::Entries::bank_entry))]
+    fn read(
+        entry: &Value,
+        place: Place,
+        earlier: &[Name],
+        context: &Context,
+    ) -> Result<(Name, Bank), StudyFault> {
+        let keys = [Key::Name, Key::Bus, Key::Q, Key::Grounded, Key::Phase];
+        entry_keys(entry, place, place, &keys)?;
+        let name = name(entry, place, earlier)?;
+        let bus = bus(entry, place, Key::Bus, context.buses.as_slice())?;
+        let q = decimal(entry, place, Key::Q, Range::ABOVE_ZERO)?;
+        let wiring = wiring_of(entry, place, context.model)?;
+        let bank = Bank {
+            name,
+            bus,
+            q,
+            grounded: wiring.grounded,
+            phase: wiring.phase,
+        };
+        Ok((name, bank))
+    }
 }
 
 /// What a scan sees: one of the two sequence networks, or a phase.
@@ -187,84 +191,90 @@ fn band_of(entry: &Value, place: Place) -> Result<Band, StudyFault>
     })
 }
 
-#[tactic(auto, unfolding(crate::specs::Entries::scan_entry_fault, crate::specs::Entries::scan_entry))]
-pub(crate) fn scan_entry(
-    entry: &Value,
-    place: Place,
-    earlier: &[Name],
-    context: &Context,
-) -> Result<ScanItem, StudyFault>
-    requires earlier { length earlier.now ≤ MAX_NAMES }
-    requires buses { length context.now.buses ≤ MAX_BUSES }
-    ensures read { Reads result (scan_entry_fault context.now earlier.now place (view entry.now)) (scan_of context.now (view entry.now)) }
-{
-    let keys = [
-        Key::Name,
-        Key::Bus,
-        Key::Network,
-        Key::Phase,
-        Key::From,
-        Key::To,
-        Key::Threshold,
-        Key::Finest,
-        Key::Locate,
-    ];
-    entry_keys(entry, place, place, &keys)?;
-    not_reserved(entry, place, "limits")?;
-    let name = name(entry, place, earlier)?;
-    let bus = bus(entry, place, Key::Bus, context.buses.as_slice())?;
-    let scanned = scanned_of(entry, place, context.model)?;
-    let band = band_of(entry, place)?;
-    Ok(ScanItem {
-        name,
-        bus,
-        network: scanned.network,
-        phase: scanned.phase,
-        from: band.from,
-        to: band.to,
-        threshold: band.threshold,
-        finest: band.finest,
-        locate: band.locate,
-    })
+impl Entry for ScanItem {
+    ghost fault = { scan_entry_fault };
+
+    ghost value = { scan_entry };
+
+    #[tactic(auto, unfolding(crate::specs::Entries::scan_entry_fault, crate::specs::Entries::scan_entry))]
+    fn read(
+        entry: &Value,
+        place: Place,
+        earlier: &[Name],
+        context: &Context,
+    ) -> Result<(Name, ScanItem), StudyFault> {
+        let keys = [
+            Key::Name,
+            Key::Bus,
+            Key::Network,
+            Key::Phase,
+            Key::From,
+            Key::To,
+            Key::Threshold,
+            Key::Finest,
+            Key::Locate,
+        ];
+        entry_keys(entry, place, place, &keys)?;
+        not_reserved(entry, place, "limits")?;
+        let name = name(entry, place, earlier)?;
+        let bus = bus(entry, place, Key::Bus, context.buses.as_slice())?;
+        let scanned = scanned_of(entry, place, context.model)?;
+        let band = band_of(entry, place)?;
+        let scan = ScanItem {
+            name,
+            bus,
+            network: scanned.network,
+            phase: scanned.phase,
+            from: band.from,
+            to: band.to,
+            threshold: band.threshold,
+            finest: band.finest,
+            locate: band.locate,
+        };
+        Ok((name, scan))
+    }
 }
 
-#[tactic(auto, unfolding(crate::specs::Entries::filter_entry_fault, crate::specs::Entries::filter_entry))]
-pub(crate) fn filter_entry(
-    entry: &Value,
-    place: Place,
-    earlier: &[Name],
-    context: &Context,
-) -> Result<Filter, StudyFault>
-    requires earlier { length earlier.now ≤ MAX_NAMES }
-    requires buses { length context.now.buses ≤ MAX_BUSES }
-    ensures read { Reads result (filter_entry_fault context.now earlier.now place (view entry.now)) (filter_of context.now (view entry.now)) }
-{
-    let keys = [
-        Key::Name,
-        Key::Bus,
-        Key::Kind,
-        Key::Q,
-        Key::Order,
-        Key::Quality,
-        Key::Grounded,
-        Key::Phase,
-    ];
-    entry_keys(entry, place, place, &keys)?;
-    let name = name(entry, place, earlier)?;
-    let bus = bus(entry, place, Key::Bus, context.buses.as_slice())?;
-    let kind = word::<FilterKind>(entry, place, Key::Kind, true)?;
-    let q = decimal(entry, place, Key::Q, Range::ABOVE_ZERO)?;
-    let order = decimal(entry, place, Key::Order, Range::TUNED_ORDER)?;
-    let quality = decimal(entry, place, Key::Quality, Range::QUALITY)?;
-    let wiring = wiring_of(entry, place, context.model)?;
-    Ok(Filter {
-        name,
-        bus,
-        kind: kind.unwrap_or(FilterKind::Single),
-        q,
-        order,
-        quality,
-        grounded: wiring.grounded,
-        phase: wiring.phase,
-    })
+impl Entry for Filter {
+    ghost fault = { filter_entry_fault };
+
+    ghost value = { filter_entry };
+
+    #[tactic(auto, unfolding(crate::specs::Entries::filter_entry_fault, crate::specs::Entries::filter_entry))]
+    fn read(
+        entry: &Value,
+        place: Place,
+        earlier: &[Name],
+        context: &Context,
+    ) -> Result<(Name, Filter), StudyFault> {
+        let keys = [
+            Key::Name,
+            Key::Bus,
+            Key::Kind,
+            Key::Q,
+            Key::Order,
+            Key::Quality,
+            Key::Grounded,
+            Key::Phase,
+        ];
+        entry_keys(entry, place, place, &keys)?;
+        let name = name(entry, place, earlier)?;
+        let bus = bus(entry, place, Key::Bus, context.buses.as_slice())?;
+        let kind = word::<FilterKind>(entry, place, Key::Kind, true)?;
+        let q = decimal(entry, place, Key::Q, Range::ABOVE_ZERO)?;
+        let order = decimal(entry, place, Key::Order, Range::TUNED_ORDER)?;
+        let quality = decimal(entry, place, Key::Quality, Range::QUALITY)?;
+        let wiring = wiring_of(entry, place, context.model)?;
+        let filter = Filter {
+            name,
+            bus,
+            kind: kind.unwrap_or(FilterKind::Single),
+            q,
+            order,
+            quality,
+            grounded: wiring.grounded,
+            phase: wiring.phase,
+        };
+        Ok((name, filter))
+    }
 }

@@ -1,9 +1,6 @@
 // Keys that several sections have, and that are read together.
-ghost use Rattle.std.specs.Prelude.{◌≡◌, pos, true, is_some, IfOk};
+ghost use Rattle.std.specs.Prelude.{◌≡◌};
 ghost use Rattle.toml.specs.View.{view};
-ghost use Rattle.study_model.specs.Range.{IsIn};
-ghost use Rattle.study_model.specs.Rules.{AreNotBothZero, IsZeroSequence, IsElementPhase};
-ghost use Rattle.study_model.specs.declared.range.TheConstants.Range.{ORDINARY, SKIN_K, SKIN_M};
 ghost use Rattle.study_reader.specs.Checks.{Reads};
 ghost use Rattle.study_reader.specs.Groups.{in_phases, impedance_fault, impedance, zero_sequence_fault, zero_sequence, skin_fault, skin, wiring_fault, wiring};
 

@@ -1,12 +1,9 @@
 // The one table of the study as a whole.
-ghost use Rattle.std.specs.Prelude.{◌≡◌, ◌⊎◌, IfOk};
+ghost use Rattle.std.specs.Prelude.{◌≡◌};
 ghost use Rattle.toml.specs.View.{view};
-ghost use Rattle.study_model.specs.Range.{IsIn};
-ghost use Rattle.study_model.specs.declared.range.TheConstants.Range.{BASE_MVA, HERTZ, ROOT3};
 ghost use Rattle.study_model.specs.declared.fault.Section.TheVariants.{Study as study_word};
 ghost use Rattle.study_model.specs.declared.fault.Key.TheVariants.{Nothing};
 ghost use Rattle.study_reader.specs.Checks.{Reads, place_of};
-ghost use Rattle.study_reader.specs.Lawful.{IsLawfulHeader};
 ghost use Rattle.study_reader.specs.Header.{header_fault, header_value, study_section_fault, study_section_value};
 ghost use Rattle.study_reader.specs.Sections.{section_in};
 

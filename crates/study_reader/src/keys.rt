@@ -1,8 +1,6 @@
 // The keys of an entry, and its names.
-ghost use Rattle.std.specs.Prelude.{◌≡◌, ◌≢◌, ◌<◌, ◌≤◌, false, length, option_map, IfOk, IfSome, IfNone, OnOk};
+ghost use Rattle.std.specs.Prelude.{◌≡◌, ◌≤◌, length, option_map};
 ghost use Rattle.toml.specs.View.{view, table_view};
-ghost use Rattle.study_model.specs.Lawful.{IsName};
-ghost use Rattle.study_reader.specs.Lawful.{IsFresh};
 ghost use Rattle.study_reader.specs.Checks.{Reads, key_of, at, has, stray_fault, flag_fault, flag_value, name_at, bus_at, name_fault, name_value, reserved_fault, bus_fault, bus_value, is_listed, are_listed, keys_fault};
 ghost use Rattle.study_model.specs.declared.limits.TheConstants.{MAX_NAMES, MAX_BUSES};
 

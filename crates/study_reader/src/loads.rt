@@ -1,17 +1,13 @@
 // The entry of a load. Which keys belong to it depends on its model, so the model is read first.
-ghost use Rattle.std.specs.Prelude.{◌≡◌, ◌≤◌, is_some, length, IfOk, IfSome};
+ghost use Rattle.std.specs.Prelude.{◌≡◌};
 ghost use Rattle.toml.specs.View.{view};
-ghost use Rattle.study_model.specs.Range.{IsIn};
-ghost use Rattle.study_model.specs.Lawful.{IsLawfulLoad};
-ghost use Rattle.study_model.specs.declared.range.TheConstants.Range.{ORDINARY};
-ghost use Rattle.study_reader.specs.Lawful.{IsFresh};
-ghost use Rattle.study_reader.specs.Checks.{Reads, AreNotBothGivenZero};
-ghost use Rattle.study_reader.specs.Loads.{is_series, power_range, part_fault, parts_fault, part, load_entry_fault, load_entry as load_of};
+ghost use Rattle.study_reader.specs.Checks.{Reads};
+ghost use Rattle.study_reader.specs.Loads.{is_series, power_range, part_fault, parts_fault, part, load_entry_fault, load_entry};
 ghost use Rattle.study_reader.specs.Checks.{option_value};
-ghost use Rattle.study_model.specs.declared.limits.TheConstants.{MAX_NAMES, MAX_BUSES};
 
 use crate::context::Context;
 use crate::decimals::{not_both_zero, optional_decimal};
+use crate::entry::Entry;
 use crate::groups::wiring_of;
 use crate::keys::{bus, entry_keys, name, not_stray};
 use crate::words::word;
@@ -77,58 +73,61 @@ fn part_of(
     Ok(Part { first, second })
 }
 
-#[tactic(auto, unfolding(crate::specs::Loads::load_entry_fault, crate::specs::Loads::load_entry))]
-pub(crate) fn load_entry(
-    entry: &Value,
-    place: Place,
-    earlier: &[Name],
-    context: &Context,
-) -> Result<Load, StudyFault>
-    requires earlier { length earlier.now ≤ MAX_NAMES }
-    requires buses { length context.now.buses ≤ MAX_BUSES }
-    ensures read { Reads result (load_entry_fault context.now earlier.now place (view entry.now)) (load_of context.now (view entry.now)) }
-{
-    let keys = [
-        Key::Name,
-        Key::Bus,
-        Key::Model,
-        Key::P,
-        Key::Q,
-        Key::R,
-        Key::X,
-        Key::Grounded,
-        Key::Phase,
-    ];
-    entry_keys(entry, place, place, &keys)?;
-    let name = name(entry, place, earlier)?;
-    let bus = bus(entry, place, Key::Bus, context.buses.as_slice())?;
-    let model = word::<LoadModel>(entry, place, Key::Model, true)?;
-    let model = model.unwrap_or(LoadModel::Cigre);
-    let has_power = !is_series(model);
-    let power = part_of(
-        entry,
-        place,
-        (Key::P, Key::Q),
-        has_power,
-        power_range(model),
-    )?;
-    let ohms = part_of(
-        entry,
-        place,
-        (Key::R, Key::X),
-        is_series(model),
-        Range::ORDINARY,
-    )?;
-    let wiring = wiring_of(entry, place, context.model)?;
-    Ok(Load {
-        name,
-        bus,
-        model,
-        p: power.first,
-        q: power.second,
-        r: ohms.first,
-        x: ohms.second,
-        grounded: wiring.grounded,
-        phase: wiring.phase,
-    })
+impl Entry for Load {
+    ghost fault = { load_entry_fault };
+
+    ghost value = { load_entry };
+
+    #[tactic(auto, unfolding(crate::specs::Loads::load_entry_fault, crate::specs::Loads::load_entry))]
+    fn read(
+        entry: &Value,
+        place: Place,
+        earlier: &[Name],
+        context: &Context,
+    ) -> Result<(Name, Load), StudyFault> {
+        let keys = [
+            Key::Name,
+            Key::Bus,
+            Key::Model,
+            Key::P,
+            Key::Q,
+            Key::R,
+            Key::X,
+            Key::Grounded,
+            Key::Phase,
+        ];
+        entry_keys(entry, place, place, &keys)?;
+        let name = name(entry, place, earlier)?;
+        let bus = bus(entry, place, Key::Bus, context.buses.as_slice())?;
+        let model = word::<LoadModel>(entry, place, Key::Model, true)?;
+        let model = model.unwrap_or(LoadModel::Cigre);
+        let has_power = !is_series(model);
+        let power = part_of(
+            entry,
+            place,
+            (Key::P, Key::Q),
+            has_power,
+            power_range(model),
+        )?;
+        let ohms = part_of(
+            entry,
+            place,
+            (Key::R, Key::X),
+            is_series(model),
+            Range::ORDINARY,
+        )?;
+        let wiring = wiring_of(entry, place, context.model)?;
+        let load = Load {
+            name,
+            bus,
+            model,
+            p: power.first,
+            q: power.second,
+            r: ohms.first,
+            x: ohms.second,
+            grounded: wiring.grounded,
+            phase: wiring.phase,
+        };
+        Ok((name, load))
+    }
 }

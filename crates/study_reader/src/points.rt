@@ -1,13 +1,13 @@
 // The entry of a point of common coupling: the only one that names an element, so it stands last.
-ghost use Rattle.std.specs.Prelude.{◌≡◌, ◌≤◌, length, IfOk, IfSome};
+ghost use Rattle.std.specs.Prelude.{◌≡◌, ◌≤◌, length};
 ghost use Rattle.toml.specs.View.{view};
 ghost use Rattle.study_reader.specs.Checks.{Reads};
-ghost use Rattle.study_reader.specs.Lawful.{IsFresh, Reaches, IsLawfulPoint};
-ghost use Rattle.study_reader.specs.Points.{is_element, element_at, element_fault, element_value, point_entry_fault, point_entry as point_of};
-ghost use Rattle.study_model.specs.declared.limits.TheConstants.{MAX_NAMES, MAX_BUSES, MAX_ALL_ELEMENTS};
+ghost use Rattle.study_reader.specs.Points.{is_element, element_at, element_fault, element_value, point_entry_fault, point_entry};
+ghost use Rattle.study_model.specs.declared.limits.TheConstants.{MAX_ALL_ELEMENTS};
 
 use crate::context::{Context, Element};
 use crate::decimals::decimal;
+use crate::entry::Entry;
 use crate::keys::{bus, entry_keys, find, key_of, name};
 use study_model::{Key, Name, Pcc, Place, Range, StudyFault};
 use toml::Value;
@@ -56,30 +56,32 @@ fn element_of(
     }
 }
 
-#[tactic(auto, unfolding(crate::specs::Points::point_entry_fault, crate::specs::Points::point_entry))]
-pub(crate) fn point_entry(
-    entry: &Value,
-    place: Place,
-    earlier: &[Name],
-    context: &Context,
-) -> Result<Pcc, StudyFault>
-    requires earlier { length earlier.now ≤ MAX_NAMES }
-    requires buses { length context.now.buses ≤ MAX_BUSES }
-    requires elements { length context.now.elements ≤ MAX_ALL_ELEMENTS }
-    ensures read { Reads result (point_entry_fault context.now earlier.now place (view entry.now)) (point_of context.now (view entry.now)) }
-{
-    let keys = [Key::Name, Key::Bus, Key::Element, Key::Isc, Key::Il];
-    entry_keys(entry, place, place, &keys)?;
-    let name = name(entry, place, earlier)?;
-    let bus = bus(entry, place, Key::Bus, context.buses.as_slice())?;
-    let element = element_of(entry, place, context.elements.as_slice(), bus)?;
-    let isc = decimal(entry, place, Key::Isc, Range::AMPERES)?;
-    let il = decimal(entry, place, Key::Il, Range::AMPERES)?;
-    Ok(Pcc {
-        name,
-        bus,
-        element,
-        isc,
-        il,
-    })
+impl Entry for Pcc {
+    ghost fault = { point_entry_fault };
+
+    ghost value = { point_entry };
+
+    #[tactic(auto, unfolding(crate::specs::Points::point_entry_fault, crate::specs::Points::point_entry))]
+    fn read(
+        entry: &Value,
+        place: Place,
+        earlier: &[Name],
+        context: &Context,
+    ) -> Result<(Name, Pcc), StudyFault> {
+        let keys = [Key::Name, Key::Bus, Key::Element, Key::Isc, Key::Il];
+        entry_keys(entry, place, place, &keys)?;
+        let name = name(entry, place, earlier)?;
+        let bus = bus(entry, place, Key::Bus, context.buses.as_slice())?;
+        let element = element_of(entry, place, context.elements.as_slice(), bus)?;
+        let isc = decimal(entry, place, Key::Isc, Range::AMPERES)?;
+        let il = decimal(entry, place, Key::Il, Range::AMPERES)?;
+        let point = Pcc {
+            name,
+            bus,
+            element,
+            isc,
+            il,
+        };
+        Ok((name, point))
+    }
 }

@@ -1,18 +1,17 @@
 // A whole study: its sections in the order of the format, so that the first fault is the one that is named.
-ghost use Rattle.std.specs.Prelude.{◌≡◌, ◌≢◌, ◌+◌, ◌*◌, ◌≤◌, ◌∷◌, [], ◌++◌, None, false, length, map, All, AllPairs, IfOk, IfErr, OnOk};
+ghost use Rattle.std.specs.Prelude.{◌≡◌, ◌≢◌, ◌+◌, ◌≤◌, ◌∷◌, [], ◌++◌, None, length, IfOk, IfErr, OnOk};
 ghost use Rattle.toml.specs.Data.{table as table_data};
 ghost use Rattle.toml.specs.Errors.{IsMemory};
 ghost use Rattle.toml.specs.View.{view, items_view, table_view};
 ghost use Rattle.study_model.specs.declared.fault.StudyFault.TheVariants.{NoMemory, NotToml};
 ghost use Rattle.study_model.specs.Lawful.{IsLawful};
 ghost use Rattle.study_reader.specs.Built.{IsBuilt, unbuilt};
-ghost use Rattle.study_reader.specs.Lawful.{IsFresh, IsLawfulPlant, names_in};
 ghost use Rattle.study_reader.specs.Checks.{ReadsInMemory, first_fault, name_value};
 ghost use Rattle.study_reader.specs.Sections.{entries_fault, entries_of, section_fault, section_value, section_names};
 ghost use Rattle.study_reader.specs.StudyOf.{at_most, some_buses, plant_fault, plant_names, plant_value, with_elements, plant_elements, sections_fault, study_fault, study_value, IsStudy, Refused};
 ghost use Rattle.study_model.specs.declared.limits.TheConstants.{MAX_NAMES, MAX_ALL_ELEMENTS};
 
-use crate::arrays::{Occurrence, are_sections, array};
+use crate::arrays::{Occurrence, array, known_sections};
 use crate::built::is_built;
 use crate::context::Context;
 use crate::elements::elements_of;
@@ -27,13 +26,18 @@ use study_model::{
 use toml::{Table, Value};
 
 /// Keeps an entry and its name behind those before.
-fn keep<E: Entry>(names: &mut Vec<Name>, made: &mut Vec<E>, entry: E) -> Result<(), StudyFault>
-    ensures names { OnOk result (names.new.items ≡ names.old.items ++ E.name_in entry ∷ []) }
+fn keep<E: Copy>(
+    names: &mut Vec<Name>,
+    made: &mut Vec<E>,
+    name: Name,
+    entry: E,
+) -> Result<(), StudyFault>
+    ensures names { OnOk result (names.new.items ≡ names.old.items ++ name ∷ []) }
     ensures made { OnOk result (made.new.items ≡ made.old.items ++ entry ∷ []) }
     ensures memory { IfErr result (λ fault. fault ≡ NoMemory) }
     ensures few { length names.new.items ≤ length names.old.items + 1 }
 {
-    if names.push(entry.name()).is_err() || made.push(entry).is_err() {
+    if names.push(name).is_err() || made.push(entry).is_err() {
         return Err(StudyFault::NoMemory);
     }
     Ok(())
@@ -64,9 +68,9 @@ fn entries<E: Entry>(
             entry: number,
             key: Key::Nothing,
         };
-        let entry = E::read(value, place, names, context)?;
+        let (name, entry) = E::read(value, place, names, context)?;
         number += 1;
-        keep::<E>(names, &mut made, entry)?;
+        keep::<E>(names, &mut made, name, entry)?;
     }
     Ok(Items::from_vec(made))
 }
@@ -242,25 +246,7 @@ fn study_of(alloc: Global, table: Table) -> Result<Study, StudyFault>
     ensures built { IfOk result IsBuilt }
     ensures read { ReadsInMemory result (study_fault (table_view table)) (study_value (table_data (table_view table))) }
 {
-    let sections = [
-        Section::Study,
-        Section::Bus,
-        Section::Source,
-        Section::Line,
-        Section::Transformer,
-        Section::Load,
-        Section::Bank,
-        Section::Filter,
-        Section::Scan,
-        Section::Pcc,
-    ];
-    if !are_sections(&sections, &table) {
-        return Err(StudyFault::UnknownKey(Place {
-            section: Section::Top,
-            entry: 0,
-            key: Key::Nothing,
-        }));
-    }
+    known_sections(&table)?;
     let study = built_study(alloc, &Value::Table(table))?;
     Ok(study)
 }

@@ -1,7 +1,7 @@
 // The words at the keys of an entry.
-ghost use Rattle.std.specs.Prelude.{◌≡◌, ℕ, List, Option, true, is_some, IfOk};
+ghost use Rattle.std.specs.Prelude.{◌≡◌, ℕ, List, Option};
 ghost use Rattle.toml.specs.View.{view};
-ghost use Rattle.study_reader.specs.Checks.{Reads, has, word_fault, word_value};
+ghost use Rattle.study_reader.specs.Checks.{Reads, word_fault, word_value};
 
 use crate::keys::{find, key_of};
 use study_model::{
