@@ -6,7 +6,7 @@ use Rattle.std.specs.Prelude.{All}
 use Rattle.study_model.specs.Range.{IsIn}
 use Rattle.study_model.specs.Lawful.{IsLawfulBus}
 use Rattle.study_model.specs.declared.records.Bus.{Bus}
-use Rattle.element_parts.specs.PerUnit.{kv_of}
+use Rattle.study_model.specs.Voltages.{kv_of}
 use Rattle.study_model.specs.declared.range.TheConstants.Range.{BUS_KV, BASE_MVA}
 
 -- the square of a whole number of at least 1

@@ -1,16 +1,6 @@
 -- Exact values in per unit. Each argument is the whole number of millionths of a decimal, in the unit that the comment names.
-use Rattle.std.specs.Prelude.{ℕ, ℤ, pos, ◌*◌, ◌^◌, ◌*ℤ◌, unsigned_abs, List, slice_get, Option, Some, None}
+use Rattle.std.specs.Prelude.{ℕ, ℤ, pos, ◌*◌, ◌^◌, ◌*ℤ◌, unsigned_abs}
 use Rattle.exact_algebra.specs.Ratio.{Ratio, over}
-use Rattle.study_model.specs.declared.records.Bus.{Bus}
-
--- the nominal voltage of a bus that there is; 0 where there is none
-abbrev pub kv_in : Option Bus → ℤ
-kv_in (Some bus) = bus.kv
-kv_in None = pos 0
-
--- the nominal voltage of the bus of a number, from 0, in kV
-abbrev pub kv_of : List Bus → ℕ → ℤ
-kv_of buses number = kv_in (slice_get buses number)
 
 -- a value as it is written: d/10^6
 unfoldable pub as_written : ℤ → Ratio

@@ -4,7 +4,8 @@ ghost use Rattle.exact_algebra.specs.Ratio.{whole};
 ghost use Rattle.exact_fraction.specs.Fraction.{ratio_of};
 ghost use Rattle.study_model.specs.Range.{IsIn};
 ghost use Rattle.study_model.specs.declared.range.TheConstants.Range.{BASE_MVA, BUS_KV};
-ghost use Rattle.element_parts.specs.PerUnit.{kv_of, as_written, impedance_per_unit, impedance_share, susceptance_share, impedance_of_rating, susceptance_of_rating, percent_per_unit, inverse_ratio};
+ghost use Rattle.study_model.specs.Voltages.{kv_of};
+ghost use Rattle.element_parts.specs.PerUnit.{as_written, impedance_per_unit, impedance_share, susceptance_share, impedance_of_rating, susceptance_of_rating, percent_per_unit, inverse_ratio};
 
 use exact_fraction::Fraction;
 use fixed_decimal::Decimal;

@@ -3,7 +3,7 @@ use Rattle.std.specs.Prelude.{ℕ, unsigned_abs, false, List}
 use Rattle.network_theory.specs.Network.{Network}
 use Rattle.network_theory.specs.Reach.{is_live}
 use Rattle.admittance_box.specs.Places.{node_ordering}
-use Rattle.element_parts.specs.PerUnit.{kv_of}
+use Rattle.study_model.specs.Voltages.{kv_of}
 use Rattle.sequence_network.specs.Networks.{network_of}
 use Rattle.band_subdivision.specs.Boxes.{BoxTest, boxes_of}
 use Rattle.band_subdivision.specs.PairTest.{pair_test}

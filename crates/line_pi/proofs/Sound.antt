@@ -12,7 +12,8 @@ use Rattle.study_model.specs.declared.words.Sequence.{Sequence}
 use Rattle.study_model.specs.declared.words.Sequence.TheVariants.{Positive, Zero}
 use Rattle.study_model.specs.declared.records.Line.{Line}
 use Rattle.study_model.specs.declared.records.Study.{Study}
-use Rattle.element_parts.specs.PerUnit.{kv_of, impedance_share, susceptance_share}
+use Rattle.study_model.specs.Voltages.{kv_of}
+use Rattle.element_parts.specs.PerUnit.{impedance_share, susceptance_share}
 use Rattle.element_parts.specs.Plain.{IsPlainLaw}
 use Rattle.element_parts.proofs.Numbers.{multiples, product_not_nought}
 use Rattle.element_parts.proofs.SmallValues.{small_share, small_susceptance_share}

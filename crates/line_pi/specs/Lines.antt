@@ -5,7 +5,8 @@ use Rattle.study_model.specs.declared.words.Sequence.{Sequence}
 use Rattle.study_model.specs.declared.words.Sequence.TheVariants.{Positive, Zero}
 use Rattle.study_model.specs.declared.records.Line.{Line}
 use Rattle.study_model.specs.declared.records.Study.{Study}
-use Rattle.element_parts.specs.PerUnit.{kv_of, impedance_share, susceptance_share}
+use Rattle.study_model.specs.Voltages.{kv_of}
+use Rattle.element_parts.specs.PerUnit.{impedance_share, susceptance_share}
 use Rattle.element_parts.specs.Expansion.{Expansion, to_ground, between, skin_series, open_circuit, law_where}
 
 -- a section between two nodes: its impedance, then the laws of an end to ground at its near end and at its far end

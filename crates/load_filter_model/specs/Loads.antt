@@ -7,7 +7,8 @@ use Rattle.study_model.specs.declared.words.LoadModel.{LoadModel}
 use Rattle.study_model.specs.declared.words.LoadModel.TheVariants as load_model
 use Rattle.study_model.specs.declared.records.Load.{Load}
 use Rattle.study_model.specs.declared.records.Study.{Study}
-use Rattle.element_parts.specs.PerUnit.{kv_of, impedance_per_unit, impedance_of_rating}
+use Rattle.study_model.specs.Voltages.{kv_of}
+use Rattle.element_parts.specs.PerUnit.{impedance_per_unit, impedance_of_rating}
 use Rattle.element_parts.specs.Expansion.{Expansion, grounded_at, series, law_where}
 use Rattle.load_filter_model.specs.Presence.{is_present}
 

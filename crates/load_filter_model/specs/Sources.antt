@@ -5,7 +5,8 @@ use Rattle.study_model.specs.declared.words.Sequence.{Sequence}
 use Rattle.study_model.specs.declared.words.Sequence.TheVariants.{Positive, Zero}
 use Rattle.study_model.specs.declared.records.Source.{Source}
 use Rattle.study_model.specs.declared.records.Study.{Study}
-use Rattle.element_parts.specs.PerUnit.{kv_of, impedance_per_unit}
+use Rattle.study_model.specs.Voltages.{kv_of}
+use Rattle.element_parts.specs.PerUnit.{impedance_per_unit}
 use Rattle.element_parts.specs.Expansion.{Expansion, grounded_at, skin_series}
 
 -- its impedance, with its skin coefficients

@@ -6,7 +6,7 @@ ghost use Rattle.net_branch.specs.Exact.{exact_law};
 ghost use Rattle.net_branch.specs.Whole.{IsWholeNetwork};
 ghost use Rattle.element_parts.specs.Adds.{Adds};
 ghost use Rattle.element_parts.specs.Parts.{exact_parts};
-ghost use Rattle.element_parts.specs.PerUnit.{kv_of};
+ghost use Rattle.study_model.specs.Voltages.{kv_of};
 ghost use Rattle.load_filter_model.specs.Loads.{cigre_laws, resistance_laws, reactance_laws, parallel_laws, load_laws, load_expansion};
 
 use crate::cigre::{has_parallel_reactance, parallel_reactance, series_reactance};

@@ -5,7 +5,7 @@ ghost use Rattle.net_branch.specs.Exact.{exact_law};
 ghost use Rattle.net_branch.specs.Whole.{IsWholeNetwork};
 ghost use Rattle.element_parts.specs.Adds.{Adds};
 ghost use Rattle.element_parts.specs.Parts.{exact_parts};
-ghost use Rattle.element_parts.specs.PerUnit.{kv_of};
+ghost use Rattle.study_model.specs.Voltages.{kv_of};
 ghost use Rattle.load_filter_model.specs.Sources.{source_series, source_expansion};
 
 use crate::grounded::grounded_parts;

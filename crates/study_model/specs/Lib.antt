@@ -5,6 +5,7 @@ pub mod ValueWords
 pub mod Faults
 pub mod Range
 pub mod Rules
+pub mod Voltages
 pub mod Elements
 pub mod Lawful
 pub mod Worked

@@ -1,6 +1,7 @@
 -- The rules on the keys of an entry, from what the checks of its keys find.
 use Rattle.std.proofs.Common.{◌≡◌, ◌<◌, ℕ, ℤ, pos, zero, suc, Bool, true, false, not, ◌&&◌, ◌||◌, List, [], ◌∷◌, Option, Some, None, length, refl, arith, sym, ap, ◌∙◌}
 use Rattle.std.specs.Prelude.{IfSome, is_some, slice_get, option_map, unwrap_or}
+use Rattle.study_model.specs.Voltages.{kv_of}
 use Rattle.study_model.specs.Range.{IsIn}
 use Rattle.study_model.specs.Lawful.{HaveEqualKv}
 use Rattle.study_model.specs.Rules.{IsZeroSequence, HasZeroSequence, AreMutual, IsNeutral, IsPower, IsImpedance, IsElementPhase, IsScanned}
@@ -17,7 +18,7 @@ use Rattle.study_model.specs.declared.words.LoadModel.{LoadModel}
 use Rattle.study_model.specs.declared.words.LoadModel.TheVariants as load_model
 use Rattle.study_reader.specs.Checks.{AreNotBothGivenZero}
 use Rattle.study_reader.specs.Groups.{in_phases}
-use Rattle.study_reader.specs.Branches.{kv_at, is_grounded}
+use Rattle.study_reader.specs.Branches.{is_grounded}
 use Rattle.study_reader.specs.Loads.{is_series, power_range}
 
 -- r0 and x0, each of which needs the other
@@ -104,13 +105,13 @@ scanned_rule study_model.Phases None (Some phase) sn sp np = tt
 scanned_rule study_model.Phases None None sn sp np = absurd (cc (np refl))
 scanned_rule study_model.Phases (Some network) phase sn sp np = absurd (cc (sn refl))
 
-kv_given : (buses : List Bus) (n : ℕ) → n < length buses → option_map (λ (bus : Bus). bus.kv) (slice_get buses n) ≡ Some (kv_at buses n)
+kv_given : (buses : List Bus) (n : ℕ) → n < length buses → option_map (λ (bus : Bus). bus.kv) (slice_get buses n) ≡ Some (kv_of buses n)
 kv_given [] n lt = absurd (omega arith)
 kv_given (bus ∷ buses) zero lt = refl
 kv_given (bus ∷ buses) (suc n) lt = kv_given buses n (omega arith)
 
 -- the ends of a line
-pub voltage_rule : (buses : List Bus) (from to : ℕ) → from < length buses → to < length buses → kv_at buses from ≡ kv_at buses to → HaveEqualKv buses from to
+pub voltage_rule : (buses : List Bus) (from to : ℕ) → from < length buses → to < length buses → kv_of buses from ≡ kv_of buses to → HaveEqualKv buses from to
 voltage_rule buses from to lf lt e = kv_given buses from lf ∙ ap Some e ∙ sym (kv_given buses to lt)
 
 pub ruleset load_rules = (power_rule, ohms_rule)

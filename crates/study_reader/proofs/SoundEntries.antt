@@ -6,6 +6,7 @@ use Rattle.std.proofs.lemmas.Bool.{and_parts}
 use Rattle.std.proofs.lemmas.Bool.Decides.{nat_tests, Decides-int_eq}
 use Rattle.std.proofs.lemmas.Int.{ints}
 use Rattle.toml.specs.Data.{Data}
+use Rattle.study_model.specs.Voltages.{kv_of}
 use Rattle.study_model.specs.Range.{IsIn}
 use Rattle.study_model.specs.Rules.{AreNotBothZero, IsZeroSequence, AreMutual, IsNeutral, IsElementPhase, IsScanned}
 use Rattle.study_model.specs.ValueWords.{phase_of, connection_of, load_model_of, filter_kind_of, sequence_of}
@@ -22,7 +23,7 @@ use Rattle.study_model.specs.declared.words.Connection.{Connection}
 use Rattle.study_model.specs.declared.words.Sequence.TheVariants as sequence
 use Rattle.study_reader.specs.Checks.{has, option_value, decimal_value, decimal_or, name_value, bus_value, word_value, stray_fault, optional_fault, decimal_fault, default_fault, both_zero_fault, sections_fault, word_fault, flag_fault, name_fault, reserved_fault, bus_fault, keys_fault}
 use Rattle.study_reader.specs.Groups.{in_phases, impedance_fault, zero_sequence_fault, skin_fault, wiring_fault}
-use Rattle.study_reader.specs.Branches.{kv_at, line_ends_fault, at_most_fault, has_mutual, mutual_fault, line_front_fault, line_entry_fault, line_entry, ends_fault, rating_fault, is_grounded, connection_at, neutral_fault, transformer_front_fault, transformer_entry_fault, transformer_entry, line_keys, transformer_keys}
+use Rattle.study_reader.specs.Branches.{line_ends_fault, at_most_fault, has_mutual, mutual_fault, line_front_fault, line_entry_fault, line_entry, ends_fault, rating_fault, is_grounded, connection_at, neutral_fault, transformer_front_fault, transformer_entry_fault, transformer_entry, line_keys, transformer_keys}
 use Rattle.study_reader.specs.Entries.{bus_entry_fault, bus_entry, source_entry_fault, source_entry, bank_entry_fault, bank_entry, filter_entry_fault, filter_entry, scanned_fault, upwards_fault, widths_fault, locate_fault, band_fault, scan_entry_fault, scan_entry, bus_keys, source_keys, bank_keys, filter_keys, scan_keys}
 use Rattle.study_reader.specs.Loads.{is_series, power_range, part_fault, parts_fault, model_in, load_entry_fault, load_entry, load_keys}
 use Rattle.study_reader.specs.Points.{point_entry_fault, point_entry, element_fault, point_keys}
@@ -101,8 +102,8 @@ line_ends_sound : (context : Context) (place : Place) (from to : ℕ) → IsBus 
     → (from ≢ to) × HaveEqualKv context.buses from to
 unfolding line_ends_fault
 line_ends_sound context place from to hf ht e =
-    let both = and_parts (not (nat_eq from to)) (int_eq (kv_at context.buses from) (kv_at context.buses to)) (passed _ (OutOfRange (record { section = place.section; entry = place.entry; key = key.To })) e) in
-    (other_end from to both.0, voltage_rule context.buses from to hf ht ((Decides-int_eq (kv_at context.buses from) (kv_at context.buses to)).0 both.1))
+    let both = and_parts (not (nat_eq from to)) (int_eq (kv_of context.buses from) (kv_of context.buses to)) (passed _ (OutOfRange (record { section = place.section; entry = place.entry; key = key.To })) e) in
+    (other_end from to both.0, voltage_rule context.buses from to hf ht ((Decides-int_eq (kv_of context.buses from) (kv_of context.buses to)).0 both.1))
 
 at_most_sound : (place : Place) (k : Key) (value most : ℤ) → at_most_fault place k value most ≡ None → value ≤ℤ most
 unfolding at_most_fault

@@ -1,7 +1,8 @@
 -- The entries of lines and transformers: their checks, and the records that they stand for.
-use Rattle.std.specs.Prelude.{ℕ, ℤ, pos, int_le, nat_eq, Bool, true, false, not, ◌&&◌, ◌||◌, List, [], ◌∷◌, Option, option_map, unwrap_or, slice_get}
+use Rattle.std.specs.Prelude.{ℕ, ℤ, pos, int_le, nat_eq, Bool, true, false, not, ◌&&◌, ◌||◌, List, [], ◌∷◌, Option, unwrap_or}
 use Rattle.std.specs.Ordering.{int_eq}
 use Rattle.toml.specs.Data.{Data}
+use Rattle.study_model.specs.Voltages.{kv_of}
 use Rattle.study_model.specs.ValueWords.{connection_of}
 use Rattle.study_model.specs.declared.fault.Place.{Place}
 use Rattle.study_model.specs.declared.fault.Key.{Key}
@@ -28,13 +29,9 @@ abbrev pub ends : Context → Data → Ends
 ends context entry = record { name = name_value entry; from = bus_value key.From context.buses entry; to = bus_value key.To context.buses entry }
 
 -- ---- a line
--- the nominal voltage of a bus
-abbrev pub kv_at : List Bus → ℕ → ℤ
-kv_at buses n = unwrap_or (option_map (λ (bus : Bus). bus.kv) (slice_get buses n)) (pos 0)
-
 -- the ends of a line are two buses of one voltage
 unfoldable pub line_ends_fault : Place → List Bus → ℕ → ℕ → Option StudyFault
-line_ends_fault place buses from to = unless (not (nat_eq from to) && int_eq (kv_at buses from) (kv_at buses to)) (OutOfRange (key_of place key.To))
+line_ends_fault place buses from to = unless (not (nat_eq from to) && int_eq (kv_of buses from) (kv_of buses to)) (OutOfRange (key_of place key.To))
 
 -- a line's susceptance in the zero sequence is at most that in the positive one
 unfoldable pub at_most_fault : Place → Key → ℤ → ℤ → Option StudyFault

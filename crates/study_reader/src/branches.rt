@@ -2,8 +2,9 @@
 ghost use Rattle.std.specs.Prelude.{◌≡◌, ◌≤◌, false, length};
 ghost use Rattle.toml.specs.View.{view};
 ghost use Rattle.study_reader.specs.Checks.{Reads, word_fault};
+ghost use Rattle.study_model.specs.Voltages.{kv_of};
 ghost use Rattle.study_model.specs.ValueWords.{connection_of};
-ghost use Rattle.study_reader.specs.Branches.{kv_at, line_ends_fault, at_most_fault, has_mutual, mutual_fault, mutuals, line_front_fault, line_entry_fault, line_entry, ends, ends_fault, rating_fault, rating, is_grounded, connection_at, neutral_fault, neutral, transformer_front_fault, transformer_entry_fault, transformer_entry};
+ghost use Rattle.study_reader.specs.Branches.{line_ends_fault, at_most_fault, has_mutual, mutual_fault, mutuals, line_front_fault, line_entry_fault, line_entry, ends, ends_fault, rating_fault, rating, is_grounded, connection_at, neutral_fault, neutral, transformer_front_fault, transformer_entry_fault, transformer_entry};
 ghost use Rattle.study_model.specs.declared.limits.TheConstants.{MAX_NAMES, MAX_BUSES};
 
 use crate::context::Context;
@@ -19,8 +20,8 @@ use study_model::{
 use toml::Value;
 
 /// The nominal voltage of a bus.
-fn kv_at(buses: &[Bus], number: u32) -> Decimal
-    ensures { result ≡ kv_at buses.now number }
+fn kv_of(buses: &[Bus], number: u32) -> Decimal
+    ensures { result ≡ kv_of buses.now number }
 {
     match buses.get(number as usize) {
         Some(bus) => bus.kv,
@@ -36,7 +37,7 @@ fn line_ends(place: Place, buses: &[Bus], from: u32, to: u32) -> Result<(), Stud
     if from == to {
         return Err(StudyFault::OutOfRange(key_of(place, Key::To)));
     }
-    if kv_at(buses, from).millionths != kv_at(buses, to).millionths {
+    if kv_of(buses, from).millionths != kv_of(buses, to).millionths {
         return Err(StudyFault::OutOfRange(key_of(place, Key::To)));
     }
     Ok(())

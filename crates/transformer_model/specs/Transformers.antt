@@ -8,7 +8,8 @@ use Rattle.study_model.specs.declared.words.Connection.{Connection}
 use Rattle.study_model.specs.declared.words.Connection.TheVariants.{Grounded, Delta}
 use Rattle.study_model.specs.declared.records.Transformer.{Transformer}
 use Rattle.study_model.specs.declared.records.Study.{Study}
-use Rattle.element_parts.specs.PerUnit.{kv_of, impedance_per_unit, percent_per_unit, inverse_ratio}
+use Rattle.study_model.specs.Voltages.{kv_of}
+use Rattle.element_parts.specs.PerUnit.{impedance_per_unit, percent_per_unit, inverse_ratio}
 use Rattle.element_parts.specs.Expansion.{Expansion, between, skin_series, open_circuit, law_where}
 
 -- the leakage impedance Z

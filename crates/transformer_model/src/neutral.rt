@@ -1,7 +1,8 @@
 // The neutrals of grounded sides. Three equal currents meet there, so a neutral's impedance counts three times.
 ghost use Rattle.std.specs.Prelude.{◌≡◌, ◌<◌, ◌≤◌, ◌≤ℤ◌, ◌*ℤ◌, ◌||◌, ◌++◌, int_lt, pos, length, map, IfOk, OnOk};
 ghost use Rattle.net_branch.specs.Exact.{exact_law, exact_branch};
-ghost use Rattle.element_parts.specs.PerUnit.{kv_of, impedance_per_unit};
+ghost use Rattle.study_model.specs.Voltages.{kv_of};
+ghost use Rattle.element_parts.specs.PerUnit.{impedance_per_unit};
 ghost use Rattle.element_parts.specs.Expansion.{skin_series};
 ghost use Rattle.transformer_model.specs.Transformers.{neutral_laws, neutral, behind};
 ghost use Rattle.transformer_model.specs.NeutralLaws.{laws_of};
