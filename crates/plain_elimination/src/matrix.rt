@@ -1,6 +1,7 @@
 // A square matrix of complex intervals.
 ghost use Rattle.std.specs.Prelude.{◌≡◌, ◌+◌, ◌*◌, ◌<◌, ◌≤◌, Some, IfOk, [], get_or, length, map, replicate};
 ghost use Rattle.complex_interval.specs.Rect.{box_of};
+ghost use Rattle.plain_elimination.specs.Layout.{rows_of};
 ghost use Rattle.plain_elimination.specs.Matrix.{Square, entry, set_entry, nought_box};
 
 use crate::cells::{cells_of_row, clear_cells, nought_cells, place_of};
@@ -52,6 +53,15 @@ impl<E: Enclosure> Matrix<E> {
         ensures rows { length self.now.rows ≡ self.now.size }
     {
         self.size
+    }
+
+    /// The entries, row after row.
+    pub fn cells(&self) -> &[Rect<E>]
+        ensures rows { rows_of self.now.size self.now.size (map (box_of E.ends) result.now) ≡ self.now.rows }
+        ensures square { length result.now ≡ self.now.size * self.now.size }
+        ensures few { self.now.size ≤ 4096 }
+    {
+        self.cells.as_slice()
     }
 
     /// The entry in this row and this column, counted from 0.
