@@ -10,3 +10,5 @@ pub mod Closure
 pub mod RowGaps
 pub mod Marks
 pub mod Filled
+pub mod SideSteps
+pub mod Taking

@@ -9,6 +9,7 @@ use Rattle.plain_elimination.proofs.Sweeps.{after_push, after_none, SweptTo}
 pub record ZeroLaws (B : Boxes) {R : Type 0} (h : R → B.Box) (z : B.Box) : Type 0 where
   pub alone : B.is_zero z ≡ true
   pub times : (f : B.Box) → B.mul f z ≡ Some z
+  pub zero_times : (f : B.Box) → B.mul z f ≡ Some z
   pub less : (a : R) → B.sub (h a) z ≡ Some (h a)
   pub less_zero : B.sub z z ≡ Some z
 

@@ -14,6 +14,9 @@ use Rattle.sparse_rows.proofs.Skipping.{ZeroLaws}
 int-mul_zero : (a : ℤ) → a *ℤ pos 0 ≡ pos 0
 int-mul_zero a = omega (arith, ints)
 
+int-zero_mul : (a : ℤ) → pos 0 *ℤ a ≡ pos 0
+int-zero_mul a = omega (arith, ints)
+
 int-sub_zero : (a : ℤ) → a -ℤ pos 0 ≡ a
 int-sub_zero a = omega (arith, ints)
 
@@ -23,6 +26,9 @@ none_over k h = omega arith
 -- a product with zero
 pub ends_times_zero : (s : ℕ) (a : Ends) → mul_ends s a (nought_box.re) ≡ Some nought_box.re
 ends_times_zero s a = rw (int-mul_zero a.low, int-mul_zero a.high, none_over (2 ^ s) (pow_pos s)) refl
+
+pub ends_zero_times : (s : ℕ) (a : Ends) → mul_ends s (nought_box.re) a ≡ Some nought_box.re
+ends_zero_times s a = rw (int-zero_mul a.low, int-zero_mul a.high, none_over (2 ^ s) (pow_pos s)) refl
 
 -- in range
 end_fits : (z : ℤ) → unsigned_abs z ≤ 2 ^ 62 → is_end z ≡ true
@@ -35,6 +41,9 @@ ends_less_zero a k = rw (int-sub_zero a.low, int-sub_zero a.high, end_fits a.low
 pub times_zero : (s : ℕ) (a : Box) → mul_boxes s a nought_box ≡ Some nought_box
 times_zero s a = rw (ends_times_zero s a.re, ends_times_zero s a.im) refl
 
+pub zero_times : (s : ℕ) (a : Box) → mul_boxes s nought_box a ≡ Some nought_box
+zero_times s a = rw (ends_zero_times s a.re, ends_zero_times s a.im) refl
+
 pub less_zero : (a : Box) → AreEnds a.re → AreEnds a.im → sub_boxes a nought_box ≡ Some a
 less_zero a re im = rw (ends_less_zero a.re re, ends_less_zero a.im im) refl
 
@@ -43,6 +52,7 @@ pub zero_laws : {E : Type 0} (s : ℕ) (ends : E → Ends) → ((a : E) → AreE
 zero_laws s ends are = record {
   alone = refl;
   times = times_zero s;
+  zero_times = zero_times s;
   less = λ x. less_zero (box_of ends x) (are x.re) (are x.im);
   less_zero = refl;
 }

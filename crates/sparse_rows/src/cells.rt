@@ -27,6 +27,14 @@ pub fn cells_from<E: Enclosure>(cells: &[Rect<E>], start: usize) -> &[Rect<E>]
     &cells[start..]
 }
 
+/// The cells before this one.
+pub fn cells_up_to<E: Enclosure>(cells: &[Rect<E>], end: usize) -> &[Rect<E>]
+    requires { end ≤ length cells.now }
+    ensures { result.now ≡ take end cells.now }
+{
+    &cells[..end]
+}
+
 /// The gaps from this one on.
 pub fn gaps_from(gaps: &[u32], start: usize) -> &[u32]
     requires { start ≤ length gaps.now }

@@ -1,6 +1,7 @@
 // Reduction and solving of complex intervals by rows with a fill pattern.
 #![tactic(auto)]
 
+mod back;
 mod bench;
 mod cells;
 mod fill;
@@ -9,5 +10,7 @@ mod load;
 mod reduction;
 mod row;
 mod rows;
+mod sides;
+mod solution;
 
 pub use bench::SparseBench;

@@ -4,8 +4,10 @@ ghost use Rattle.complex_interval.specs.Rect.{box_of};
 ghost use Rattle.plain_elimination.specs.declared.failure.Failure.TheVariants.{OutOfRange};
 ghost use Rattle.plain_elimination.specs.Elimination.{bind, or_fail, split_pivot, later_rows, reduce_step, reduce};
 ghost use Rattle.plain_elimination.specs.Layout.{rows_of, from_column, rows_left};
+ghost use Rattle.plain_elimination.specs.Matrix.{nought_box};
 ghost use Rattle.plain_elimination.specs.Rectangles.{boxes};
 ghost use Rattle.sparse_rows.specs.Listed.{Skips, ZeroAt, ZeroOutside, KeepsZeros, IsFill};
+ghost use Rattle.sparse_rows.specs.Sides.{column_of, later_entries};
 
 use crate::cells::{cell, cells_from, gaps_from, gaps_up_to};
 use crate::rows::eliminate_rows;
@@ -30,6 +32,8 @@ fn reduce_by<E: Enclosure>(
         bind result (λ _. Ok (from_column (column + 1) (rows_of (length line.now - 1) size (map (box_of E.ends) later.new))))
         ≡ bind (split_pivot (boxes E.SCALE) (column + 1) (map (box_of E.ends) line.now)) (λ split.
         or_fail (OutOfRange (column + 1)) (later_rows (boxes E.SCALE) split.0 split.1 (from_column column (rows_of (length line.now - 1) size (map (box_of E.ends) later.old))))) }
+    ensures entries { let entries = column_of nought_box (length line.now - 1) (column + length line.now) column in
+        entries (map (box_of E.ends) later.new) ≡ entries (map (box_of E.ends) later.old) }
     ensures zeros { KeepsZeros (map (box_of E.ends) (drop 1 line.now)) (length line.now - 1) (column + length line.now) column (map (box_of E.ends) later.old) (map (box_of E.ends) later.new) }
 {
     let step = column as u32 + 1;
@@ -51,8 +55,9 @@ fn reduce_by<E: Enclosure>(
     }
 }
 
-// One step of a square list of rows: the pivot of this column is tested, then the later rows are changed.
-fn reduce_column<E: Enclosure>(
+/// One step of a square list of rows: the pivot of this column is tested, then the later rows are changed. Their entries in this
+/// column stay.
+pub fn reduce_column<E: Enclosure>(
     cells: &mut [Rect<E>],
     gaps: &[u32],
     size: usize,
@@ -66,6 +71,8 @@ fn reduce_column<E: Enclosure>(
     requires zeros { ZeroOutside gaps.now (map (box_of E.ends) cells.old) }
     ensures stated { bind result (λ _. Ok (rows_left size (column + 1) (map (box_of E.ends) cells.new)))
         ≡ reduce_step (boxes E.SCALE) (column + 1) (rows_left size column (map (box_of E.ends) cells.old)) }
+    ensures rows_kept { take ((column + 1) * size) cells.new ≡ take ((column + 1) * size) cells.old }
+    ensures entries { later_entries size column (map (box_of E.ends) cells.new) ≡ later_entries size column (map (box_of E.ends) cells.old) }
     ensures zeros { ZeroOutside gaps.now (map (box_of E.ends) cells.new) }
 {
     let (done, later) = cells.split_at_mut((column + 1) * size);

@@ -4,8 +4,10 @@ ghost use Rattle.std.specs.Option.{option_map};
 ghost use Rattle.complex_interval.specs.Rect.{box_of};
 ghost use Rattle.plain_elimination.specs.Elimination.{later_row, later_rows};
 ghost use Rattle.plain_elimination.specs.Layout.{rows_of, from_column};
+ghost use Rattle.plain_elimination.specs.Matrix.{nought_box};
 ghost use Rattle.plain_elimination.specs.Rectangles.{boxes};
 ghost use Rattle.sparse_rows.specs.Listed.{Skips, ZeroAt, Out, ZeroOutside, KeepsZeros};
+ghost use Rattle.sparse_rows.specs.Sides.{column_of};
 
 use crate::cells::cell;
 use crate::row::eliminate_listed;
@@ -57,6 +59,8 @@ pub fn eliminate_rows<E: Enclosure>(
         option_map (λ _. from_column (column + 1) (rows_of (length first.now) size (map (box_of E.ends) later.new))) result
         ≡ later_rows (boxes E.SCALE) (box_of E.ends pivot) (map (box_of E.ends) first.now)
         (from_column column (rows_of (length first.now) size (map (box_of E.ends) later.old))) }
+    ensures entries { let entries = column_of nought_box (length first.now) (column + 1 + length first.now) column in
+        entries (map (box_of E.ends) later.new) ≡ entries (map (box_of E.ends) later.old) }
     ensures zeros { KeepsZeros (map (box_of E.ends) first.now) (length first.now) (column + 1 + length first.now) column (map (box_of E.ends) later.old) (map (box_of E.ends) later.new) }
 {
     let size = column + 1 + first.len();

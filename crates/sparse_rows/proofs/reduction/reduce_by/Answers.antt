@@ -29,3 +29,19 @@ returns-in-None-clause-zeros g c =
     let tail : length c.cells_from.result.now ≡ length c.args.line.now - 1 = ap length c.cells_from.ensures ∙ length-drop 1 c.args.line.now in
     let width : k + 1 + length c.cells_from.result.now ≡ k + length c.args.line.now = omega arith in
     resized _ _ (length c.cells_from.result.now) (length c.args.line.now - 1) (k + 1 + length c.cells_from.result.now) (k + length c.args.line.now) k _ _ (ap (map box) c.cells_from.ensures) tail width c.eliminate_rows.ensures.zeros
+
+pub returns-in-Some-clause-entries : goal.returns-in-Some-clause-entries
+returns-in-Some-clause-entries g c =
+    let box = box_of g.E.Enclosure.ends in
+    let k = c.args.column in
+    let tail : length c.cells_from.result.now ≡ length c.args.line.now - 1 = ap length c.cells_from.ensures ∙ length-drop 1 c.args.line.now in
+    let width : k + 1 + length c.cells_from.result.now ≡ k + length c.args.line.now = omega arith in
+    rw (← tail, ← width) c.eliminate_rows.ensures.entries
+
+pub returns-in-None-clause-entries : goal.returns-in-None-clause-entries
+returns-in-None-clause-entries g c =
+    let box = box_of g.E.Enclosure.ends in
+    let k = c.args.column in
+    let tail : length c.cells_from.result.now ≡ length c.args.line.now - 1 = ap length c.cells_from.ensures ∙ length-drop 1 c.args.line.now in
+    let width : k + 1 + length c.cells_from.result.now ≡ k + length c.args.line.now = omega arith in
+    rw (← tail, ← width) c.eliminate_rows.ensures.entries

@@ -1,9 +1,12 @@
-use Rattle.std.proofs.Common.{◌≡◌, refl, ◌+◌, ◌-◌, ◌*◌, length, drop, get_or, map, sym, ap, subst, ◌∙◌, arith}
+use Rattle.std.proofs.Common.{◌≡◌, refl, ◌+◌, ◌-◌, ◌*◌, ◌++◌, length, drop, get_or, map, sym, ap, subst, ◌∙◌, arith}
+use Rattle.std.proofs.lemmas.List.{length-map, length-take-le, map-append, drop_at}
 use Rattle.complex_interval.specs.Rect.{box_of}
 use Rattle.plain_elimination.specs.Layout.{pivot_row}
+use Rattle.plain_elimination.specs.Matrix.{nought_box}
 use Rattle.plain_elimination.specs.Rectangles.{boxes}
-use Rattle.plain_elimination.proofs.Left.{cells_behind, first_size, column_done}
+use Rattle.plain_elimination.proofs.Left.{cells_behind, first_size, column_done, later_is}
 use Rattle.sparse_rows.specs.Listed.{Skips, ZeroAt}
+use Rattle.sparse_rows.specs.Sides.{column_of}
 use Rattle.sparse_rows.proofs.Columns.{listed_behind, column_zero, row_zero, column_zeros, resized, head_at}
 use Rattle.sparse_rows.proofs.reduction.reduce_column.Goals as goal
 
@@ -61,3 +64,21 @@ returns-clause-zeros g c =
     let count : length line - 1 ≡ size - 1 - k = omega arith in
     column_zeros box c.args.gaps.now size k cells c.split_at_mut-done.result.0.now c.split_at_mut-done.result.1.now line c.requires.fill l c.requires.zeros parts.front parts.back c.cells_from-line.ensures c.reduce_by.new.later c.requires.square
     (resized _ _ _ _ _ _ _ _ _ refl count width c.reduce_by.ensures.zeros)
+
+pub returns-clause-entries : goal.returns-clause-entries
+returns-clause-entries g c =
+    let box = box_of g.E.Enclosure.ends in
+    let size = c.args.size in
+    let k = c.args.column in
+    let cells = c.args.cells.now in
+    let parts = c.split_at_mut-done.ensures in
+    let done = c.split_at_mut-done.result.0.now in
+    let new = c.reduce_by.new.later in
+    let line = c.cells_from-line.result.now in
+    let width : k + length line ≡ size = first_size k size cells _ _ c.requires.column_in c.requires.square parts.front c.cells_from-line.ensures in
+    let count : length line - 1 ≡ size - 1 - k = omega arith in
+    let fits = cells_behind k size c.requires.column_in in
+    let front : length (map box done) ≡ (k + 1) * size = length-map done box ∙ ap length parts.front ∙ length-take-le ((k + 1) * size) cells (omega arith) in
+    let behind : drop ((k + 1) * size) (map box (done ++ new)) ≡ map box new = ap (drop ((k + 1) * size)) (map-append box done new) ∙ drop_at (map box done) (map box new) ((k + 1) * size) front in
+    let entries = column_of nought_box (size - 1 - k) size k in
+    ap entries behind ∙ rw (count, width) at c.reduce_by.ensures.entries ∙ ap entries (later_is box k size cells _ parts.back)

@@ -5,6 +5,7 @@ use Rattle.plain_elimination.specs.Matrix.{nought_box}
 use Rattle.plain_elimination.specs.Rectangles.{boxes}
 use Rattle.plain_elimination.proofs.Layouts.{rows_more, rows_none, row_fits}
 use Rattle.sparse_rows.proofs.Heads.{head_stays}
+use Rattle.sparse_rows.proofs.SideSteps.{column_same}
 use Rattle.sparse_rows.proofs.SkippedRows.{skip_rows, eliminated_none, eliminated_all}
 use Rattle.sparse_rows.proofs.Zeros.{zero_laws}
 use Rattle.sparse_rows.proofs.rows.eliminate_rows.Goals as goal
@@ -38,6 +39,21 @@ returns-in_err-eliminate_at-clause-stated g c =
 pub returns-in_err-eliminate_at-clause-zeros : goal.returns-in_err-eliminate_at-clause-zeros
 returns-in_err-eliminate_at-clause-zeros g c =
     λ all zeros closed. c.eliminate_at.ensures.zeros all (c.loop-i.invariant.4 all zeros closed) (λ j l out. closed c.loop-i.i j c.loop-i-test.true l out)
+
+pub returns-in_err-eliminate_at-clause-entries : goal.returns-in_err-eliminate_at-clause-entries
+returns-in_err-eliminate_at-clause-entries g c =
+    let box = box_of g.E.Enclosure.ends in
+    let n = length c.args.first.now in
+    let w = c.args.column + 1 + n in
+    let step = c.eliminate_at.ensures in
+    column_same nought_box n w c.args.column (map box c.eliminate_at.new.cells) (map box c.args.later.now)
+    (λ r l. head_stays box c.loop-i.later c.eliminate_at.new.cells n w c.args.column c.loop-i.i r refl l step.before step.after ∙ c.loop-i.invariant.3 r l)
+
+pub returns-clause-entries : goal.returns-clause-entries
+returns-clause-entries g c =
+    let box = box_of g.E.Enclosure.ends in
+    let n = length c.args.first.now in
+    column_same nought_box n (c.args.column + 1 + n) c.args.column (map box c.loop-i.later) (map box c.args.later.now) c.loop-i.invariant.3
 
 pub loop-i-preserved : goal.loop-i-preserved
 loop-i-preserved g c =
