@@ -97,12 +97,13 @@ module _ (n : ℕ) (places : List Spot) (marks : List Bool) (gaps : List ℕ) (f
       (λ (l : q < n * n). get_or-replicate (n * n) q nought_box nought_box l)
       (λ (l : n * n ≤ q). get_or_past (replicate (n * n) nought_box) q nought_box (omega (arith, length-replicate (n * n) nought_box)))
 
-  pub bench : 1 ≤ n → n ≤ 4096 → IsBench n places gaps (replicate (n * n) nought_box)
+  pub bench : 1 ≤ n → n ≤ 4096 → IsBench n places gaps (replicate (n * n) nought_box) (replicate n nought_box)
   bench some few = record {
     some = some;
     few = few;
     gap_size = size;
     square = length-replicate (n * n) nought_box;
+    side_size = length-replicate n nought_box;
     fill = fill;
     zeros = zeros;
     covered = covered;

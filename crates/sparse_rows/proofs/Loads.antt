@@ -1,7 +1,9 @@
 -- Cells that are copied from a source one by one.
-use Rattle.std.proofs.Common.{◌≡◌, ◌≢◌, ◌⊎◌, ⊎_elim, inl, inr, ℕ, zero, suc, ◌+◌, ◌*◌, ◌-◌, ◌<◌, ◌≤◌, List, length, get_or, get_or-set_same, get_or-set_other, set, map, sym, subst, ap, ◌∙◌, arith}
+use Rattle.std.proofs.Common.{◌≡◌, ◌≢◌, ◌⊎◌, ⊎_elim, inl, inr, ℕ, zero, suc, ◌+◌, ◌*◌, ◌-◌, ◌<◌, ◌≤◌, List, [], ◌∷◌, ◌++◌, length, get_or, get_or-set_same, get_or-set_other, set, take, map, Some, sym, subst, ap, ap₂, ◌∙◌, arith}
+use Rattle.std.specs.Prelude.{slice_get}
+use Rattle.std.proofs.lemmas.Option.{slice_get-get_or}
 use Rattle.std.proofs.lemmas.Bool.{cases_eq}
-use Rattle.std.proofs.lemmas.List.{get_or-map, length-map, map-set, ext_get_or}
+use Rattle.std.proofs.lemmas.List.{get_or-map, length-map, map-set, ext_get_or, take_more, take_more_set, take_all}
 use Rattle.exact_algebra.proofs.Differences.{products}
 use Rattle.complex_interval.specs.Boxes.{Box}
 use Rattle.plain_elimination.specs.Matrix.{nought_box}
@@ -75,3 +77,24 @@ column_more gaps source old mid new size k j fill l lj m before closer outside d
     by_lt j i
     (λ (t : j < i). closer (i * size + k) (outside (i * size + k) (fill.across k i l (omega arith) (fill.between k j i lj t li' (omega arith)))))
     (λ (t : i ≤ j). let e : j ≡ i = omega arith in subst (λ r. SameAt source new (r * size + k)) e here))
+
+-- ---- a column, entry by entry
+pub front_loaded : {R : Type 0} (h : R → Box) (sides : List R) (right : List Box) (i : ℕ) (x : R) → i < length sides → i < length right → slice_get right i ≡ Some (h x)
+    → take i (map h sides) ≡ take i right → take (i + 1) (map h (set sides i x)) ≡ take (i + 1) right
+front_loaded h sides right i x ls lr e k =
+    let read : Some (get_or right i (h x)) ≡ Some (h x) = sym (slice_get-get_or right i (h x) lr) ∙ e in
+    let entry : get_or right i (h x) ≡ h x = cc in
+    ap (take (i + 1)) (map-set h sides i x)
+    ∙ take_more_set (map h sides) i (h x) (rw (length-map sides h) ls)
+    ∙ ap₂ (λ front y. front ++ y ∷ []) k (sym entry)
+    ∙ sym (take_more right i (h x) lr)
+
+pub front_stored : {R : Type 0} (h : R → Box) (sides : List R) (right : List Box) (i : ℕ) (x : R) → i < length sides → i < length right → x ≡ get_or sides i x
+    → take i right ≡ take i (map h sides) → take (i + 1) (set right i (h x)) ≡ take (i + 1) (map h sides)
+front_stored h sides right i x ls lr e k =
+    take_more_set right i (h x) lr
+    ∙ ap₂ (λ front y. front ++ y ∷ []) k (ap h e ∙ sym (get_or-map h sides i x (h x) ls))
+    ∙ sym (take_more (map h sides) i (h x) (rw (length-map sides h) ls))
+
+pub all_fronts : (xs ys : List Box) (i : ℕ) → length xs ≤ i → length ys ≤ i → take i xs ≡ take i ys → xs ≡ ys
+all_fronts xs ys i lx ly k = sym (take_all i xs lx) ∙ k ∙ take_all i ys ly

@@ -1,6 +1,6 @@
 -- The right sides of a step, entry by entry, and that a step of a system is one of its rows and one of its right sides.
-use Rattle.std.proofs.Common.{◌≡◌, ℕ, zero, suc, ◌+◌, ◌-◌, ◌*◌, ◌<◌, ◌≤◌, Bool, true, false, List, [], ◌∷◌, ◌++◌, length, get_or, set, take, drop, map, Option, Some, None, Result, Ok, Err, refl, sym, subst, ap, ap₂, ◌∙◌, append-nil, arith}
-use Rattle.std.proofs.lemmas.List.{drop_more, drop_all, take_all, take_more, take_more_set, drop-set-lt, drop-take, get_or-take, get_or-drop, length-map, length-drop, length-take-le, map-set}
+use Rattle.std.proofs.Common.{◌≡◌, ℕ, zero, suc, ◌+◌, ◌-◌, ◌*◌, ◌<◌, ◌≤◌, Bool, true, false, List, [], ◌∷◌, ◌++◌, length, get_or, set, take, drop, map, Option, Some, None, Ok, Err, refl, sym, subst, ap, ap₂, ◌∙◌, append-nil, arith}
+use Rattle.std.proofs.lemmas.List.{drop_more, drop_all, take_all, take_more, take_more_set, drop-set-lt, get_or-take, get_or-drop, length-map, length-drop, length-take-le, map-set}
 use Rattle.std.specs.Prelude.{if◌then◌else◌}
 use Rattle.exact_algebra.proofs.Differences.{products}
 use Rattle.plain_elimination.specs.Elimination.{Boxes, Line, and_then, bind, or_fail, later_row, later_rows, sweep, later_line, later_lines, lines_of, reduce_step, solve_step}

@@ -22,9 +22,9 @@ entry_zero n a b xs la lb square e =
     let same : Some x ≡ Some nought_box = sym read' ∙ e in
     cc
 
-pub zero_source : (pattern : Places) (matrix : Square) (gaps : List ℕ) (cells xs : List Box) → IsBench pattern.size pattern.places gaps cells → matrix.size ≡ pattern.size → Keeps pattern matrix
+pub zero_source : (pattern : Places) (matrix : Square) (gaps : List ℕ) (cells sides xs : List Box) → IsBench pattern.size pattern.places gaps cells sides → matrix.size ≡ pattern.size → Keeps pattern matrix
     → rows_of matrix.size matrix.size xs ≡ matrix.rows → length xs ≡ matrix.size * matrix.size → ZeroOutside gaps xs
-zero_source pattern matrix gaps cells xs bench es keeps rows square q out =
+zero_source pattern matrix gaps cells sides xs bench es keeps rows square q out =
     let n = pattern.size in
     let square' : length xs ≡ n * n = square ∙ ap (λ m. m * m) es in
     let rows' : rows_of n n xs ≡ matrix.rows = ap (λ m. rows_of m m xs) (sym es) ∙ rows in
@@ -34,3 +34,7 @@ zero_source pattern matrix gaps cells xs bench es keeps rows square q out =
     (λ a b la lb o. entry_zero n a b xs la lb square' (ap (λ rs. entry rs a b) rows' ∙ keeps a b la lb (bench.covered a b la lb o)))
     out)
     (λ (l : n * n ≤ q). get_or_past xs q nought_box (omega arith))
+
+-- the rows by the size of the pattern
+pub rows_same : (n m : ℕ) (xs : List Box) (rows : List (List Box)) → m ≡ n → rows_of m m xs ≡ rows → rows_of n n xs ≡ rows
+rows_same n m xs rows e k = ap (λ i. rows_of i i xs) (sym e) ∙ k

@@ -1,7 +1,7 @@
 -- Places where a row is zero: taking the unknowns away passes over them.
 use Rattle.std.proofs.Common.{◌≡◌, ℕ, zero, suc, ◌+◌, ◌<◌, ◌≤◌, List, ◌∷◌, length, get_or, drop, map, subst, ap, ◌∙◌, refl, arith}
 use Rattle.std.proofs.lemmas.List.{drop_more, length-map}
-use Rattle.plain_elimination.specs.Elimination.{Boxes, take_away}
+use Rattle.plain_elimination.specs.Elimination.{Boxes}
 use Rattle.plain_elimination.proofs.Rests.{TakenTo}
 use Rattle.sparse_rows.proofs.Skipping.{ZeroLaws}
 

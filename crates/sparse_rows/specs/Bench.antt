@@ -20,11 +20,12 @@ abbrev pub Keeps : Places → Square → Type 0
 Keeps pattern matrix = (row column : ℕ) → row < pattern.size → column < pattern.size → IsNoPlace pattern.places row column → entry matrix.rows row column ≡ Some nought_box
 
 -- a bench of a pattern
-pub record IsBench (size : ℕ) (places : List Spot) (gaps : List ℕ) (cells : List Box) : Type 0 where
+pub record IsBench (size : ℕ) (places : List Spot) (gaps : List ℕ) (cells sides : List Box) : Type 0 where
   pub some : 1 ≤ size
   pub few : size ≤ 4096
   pub gap_size : length gaps ≡ size * size
   pub square : length cells ≡ size * size
+  pub side_size : length sides ≡ size
   pub fill : IsFill gaps size
   pub zeros : ZeroOutside gaps cells
   pub covered : (row column : ℕ) → row < size → column < size → Out gaps (row * size + column) → IsNoPlace places row column

@@ -5,6 +5,7 @@ ghost use Rattle.sparse_rows.specs.Listed.{Out, IsFill, SameAt, CloserTo};
 
 use crate::cells::{cell, set_cell};
 use complex_interval::{Enclosure, Rect};
+use plain_elimination::Column;
 
 // Copies this cell.
 fn load_cell<E: Enclosure>(cells: &mut [Rect<E>], source: &[Rect<E>], at: usize)
@@ -61,5 +62,29 @@ pub fn load_listed<E: Enclosure>(
 {
     for k in 0..size {
         load_row(cells, source, gaps, size, k);
+    }
+}
+
+/// Copies a column to cells.
+pub fn load_sides<E: Enclosure>(sides: &mut [Rect<E>], right: &Column<E>)
+    requires few { length sides.old ≤ 4096 }
+    requires sizes { length right.now ≡ length sides.old }
+    ensures { map (box_of E.ends) sides.new ≡ right.now }
+{
+    for i in 0..sides.len() {
+        let value = right.get(i as u32);
+        set_cell(sides, i, value);
+    }
+}
+
+/// Copies cells to a column.
+pub fn store_sides<E: Enclosure>(right: &mut Column<E>, sides: &[Rect<E>])
+    requires few { length sides.now ≤ 4096 }
+    requires sizes { length right.old ≡ length sides.now }
+    ensures { right.new ≡ map (box_of E.ends) sides.now }
+{
+    for i in 0..sides.len() {
+        let value = cell(sides, i);
+        right.set(i as u32, value);
     }
 }

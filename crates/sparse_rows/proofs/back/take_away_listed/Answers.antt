@@ -1,4 +1,4 @@
-use Rattle.std.proofs.Common.{◌≡◌, ◌≤◌, ◌<◌, ◌+◌, ◌-◌, length, get_or, refl, sym, arith}
+use Rattle.std.proofs.Common.{◌≤◌, ◌<◌, ◌+◌, ◌-◌, length, get_or, refl, sym, arith}
 use Rattle.complex_interval.specs.Rect.{box_of}
 use Rattle.plain_elimination.specs.Matrix.{nought_box}
 use Rattle.plain_elimination.specs.Rectangles.{boxes}

@@ -1,4 +1,4 @@
-use Rattle.std.proofs.Common.{◌≡◌, ◌<◌, ◌≤◌, ◌+◌, ◌*◌, ◌-◌, ℕ, length, get_or, map, set, sym, ap, ◌∙◌, arith}
+use Rattle.std.proofs.Common.{◌≡◌, ◌<◌, ◌≤◌, ◌+◌, ◌*◌, ◌-◌, length, get_or, map, set, sym, ap, ◌∙◌, arith}
 use Rattle.std.proofs.lemmas.List.{get_or-map, length-set}
 use Rattle.exact_algebra.proofs.Differences.{products}
 use Rattle.complex_interval.specs.Rect.{box_of}
@@ -30,7 +30,7 @@ loop-r-init g c =
     let start : c.args.start ≤ n = omega (arith, listed.inside) in
     let live : c.args.start < n → 1 ≤ get_or c.args.gaps.now c.args.start 0 = λ l. listed.first (omega arith) in
     let sides = skip_sides B box nought_box laws (box c.args.pivot) (box c.args.first_right) entries right right c.args.start 0 c.args.start (omega arith) (omega arith) start
-        (λ q u v. column_at nought_box n w c.args.column q later (omega arith) ∙ listed.before q v) (sided_none B box (box c.args.pivot) (box c.args.first_right) entries right) in
+    (λ q u v. column_at nought_box n w c.args.column q later (omega arith) ∙ listed.before q v) (sided_none B box (box c.args.pivot) (box c.args.first_right) entries right) in
     (start, live, sides)
 
 pub returns-in_err-side : goal.returns-in_err-side
@@ -78,7 +78,7 @@ loop-r-preserved g c =
     let next : r + gap < length new → 1 ≤ get_or c.args.gaps.now (r + gap) 0 = λ l. listed.next r inside live (omega arith) in
     let one = sided_more B box nought_box (box c.args.pivot) (box c.args.first_right) (box x) entries c.args.right.now right r c.cell.result c.in_ok-side.side (omega arith) (omega arith) entry c.cell.ensures c.in_ok-side.ensures c.loop-r.invariant.2 in
     let sides = skip_sides B box nought_box laws (box c.args.pivot) (box c.args.first_right) entries c.args.right.now new (gap - 1) (r + 1) (r + gap) (omega arith) (omega arith) onward
-        (λ q u v. column_at nought_box n w c.args.column q (map box later) (omega arith) ∙ listed.between r q inside (omega arith) v) one in
+    (λ q u v. column_at nought_box n w c.args.column q (map box later) (omega arith) ∙ listed.between r q inside (omega arith) v) one in
     rw c.set_cell.ensures (onward, next, sides)
 
 pub returns : goal.returns

@@ -1,7 +1,6 @@
 use Rattle.std.proofs.Common.{◌≡◌, ◌+◌, ◌-◌, ◌*◌, ◌++◌, length, get_or, take, drop, map, refl, sym, subst, ap, ap₂, ◌∙◌, arith}
 use Rattle.std.specs.Option.{option_map}
 use Rattle.std.proofs.lemmas.List.{length-drop, length-map, length-take-le, map-append, drop_at, drop-map, get_or-map}
-use Rattle.exact_algebra.proofs.Differences.{products}
 use Rattle.complex_interval.specs.Rect.{box_of}
 use Rattle.plain_elimination.specs.Layout.{pivot_row}
 use Rattle.plain_elimination.specs.Matrix.{nought_box}
@@ -9,7 +8,7 @@ use Rattle.plain_elimination.specs.Rectangles.{boxes}
 use Rattle.plain_elimination.proofs.Layouts.{row_fits}
 use Rattle.plain_elimination.proofs.Left.{cells_behind, first_size, later_is}
 use Rattle.sparse_rows.specs.Listed.{Skips, ZeroAt}
-use Rattle.sparse_rows.proofs.Columns.{listed_behind, row_zero, head_at}
+use Rattle.sparse_rows.proofs.Columns.{listed_behind, row_zero}
 use Rattle.sparse_rows.proofs.SideSteps.{sides_same}
 use Rattle.sparse_rows.proofs.solution.solve_sides.Goals as goal
 
