@@ -1,6 +1,7 @@
 // A square matrix of complex intervals.
 ghost use Rattle.std.specs.Prelude.{◌≡◌, ◌+◌, ◌*◌, ◌<◌, ◌≤◌, Some, IfOk, [], get_or, length, map, replicate};
 ghost use Rattle.complex_interval.specs.Rect.{rectangle_of};
+ghost use Rattle.plain_elimination.specs.Layout.{rows_of};
 ghost use Rattle.plain_elimination.specs.Matrix.{Square, entry, set_entry, nought_rectangle};
 ghost use Rattle.plain_elimination.specs.declared.limits.TheConstants.{MAX_SIZE};
 
@@ -54,6 +55,15 @@ impl<E: Enclosure> Matrix<E> {
         ensures rows { length self.now.rows ≡ self.now.size }
     {
         self.size
+    }
+
+    /// The entries, row after row.
+    pub fn cells(&self) -> &[Rect<E>]
+        ensures rows { rows_of self.now.size self.now.size (map (rectangle_of E.ends) result.now) ≡ self.now.rows }
+        ensures square { length result.now ≡ self.now.size * self.now.size }
+        ensures few { self.now.size ≤ MAX_SIZE }
+    {
+        self.cells.as_slice()
     }
 
     /// The entry in this row and this column, counted from 0.

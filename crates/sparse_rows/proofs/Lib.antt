@@ -1,0 +1,14 @@
+pub mod Zeros
+pub mod Skipping
+pub mod Outside
+pub mod SkippedRows
+pub mod Heads
+pub mod Columns
+pub mod Loads
+pub mod Sources
+pub mod Closure
+pub mod RowGaps
+pub mod Marks
+pub mod Filled
+pub mod SideSteps
+pub mod Taking
