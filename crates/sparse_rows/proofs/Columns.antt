@@ -2,14 +2,14 @@
 use Rattle.std.proofs.Common.{◌≡◌, ⊎_elim, inl, inr, ℕ, ◌+◌, ◌*◌, ◌-◌, ◌<◌, ◌≤◌, List, ◌++◌, length, get_or, take, drop, map, refl, sym, subst, ap, ◌∙◌, arith}
 use Rattle.std.proofs.lemmas.List.{get_or-take, get_or-drop, drop-map, take-map, length-drop, length-map, length-take-le, map-append, drop_at, take_at}
 use Rattle.exact_algebra.proofs.Differences.{products}
-use Rattle.complex_interval.specs.Boxes.{Box}
+use Rattle.complex_interval.specs.Rectangles.{Rectangle}
 use Rattle.plain_elimination.specs.Layout.{pivot_row}
-use Rattle.plain_elimination.specs.Matrix.{nought_box}
+use Rattle.plain_elimination.specs.Matrix.{nought_rectangle}
 use Rattle.plain_elimination.proofs.Left.{cells_behind, first_size, first_is}
 use Rattle.sparse_rows.specs.Listed.{Skips, ZeroAt, Out, ZeroOutside, KeepsZeros, IsFill}
 use Rattle.sparse_rows.proofs.Outside.{by_lt}
 
-pub resized : (first first' : List Box) (n n' w w' c : ℕ) (old new : List Box) → first ≡ first' → n ≡ n' → w ≡ w' → KeepsZeros first n w c old new → KeepsZeros first' n' w' c old new
+pub resized : (first first' : List Rectangle) (n n' w w' c : ℕ) (old new : List Rectangle) → first ≡ first' → n ≡ n' → w ≡ w' → KeepsZeros first n w c old new → KeepsZeros first' n' w' c old new
 resized first first' n n' w w' c old new ef en ew k = rw (← ef, ← en, ← ew) k
 
 -- an entry of the pivot's row behind the pivot
@@ -76,20 +76,20 @@ listed_behind P gaps size k fill l square p =
 later_place : (k size r c : ℕ) → (k + 1) * size + (r * size + c) ≡ (k + 1 + r) * size + c
 later_place k size r c = omega (arith, products)
 
-module _ {R : Type 0} (h : R → Box) (gaps : List ℕ) (size k : ℕ) (cells done later line : List R) (fill : IsFill gaps size) (l : k < size) (zeros : ZeroOutside gaps (map h cells))
+module _ {R : Type 0} (h : R → Rectangle) (gaps : List ℕ) (size k : ℕ) (cells done later line : List R) (fill : IsFill gaps size) (l : k < size) (zeros : ZeroOutside gaps (map h cells))
     (ed : done ≡ take ((k + 1) * size) cells) (el : later ≡ drop ((k + 1) * size) cells) (ef : line ≡ drop (k * size + k) done) where
-  later_at : (i : ℕ) → get_or (map h later) i nought_box ≡ get_or (map h cells) ((k + 1) * size + i) nought_box
-  later_at i = ap (λ xs. get_or (map h xs) i nought_box) el ∙ ap (λ xs. get_or xs i nought_box) (sym (drop-map h ((k + 1) * size) cells)) ∙ get_or-drop ((k + 1) * size) (map h cells) i nought_box
+  later_at : (i : ℕ) → get_or (map h later) i nought_rectangle ≡ get_or (map h cells) ((k + 1) * size + i) nought_rectangle
+  later_at i = ap (λ xs. get_or (map h xs) i nought_rectangle) el ∙ ap (λ xs. get_or xs i nought_rectangle) (sym (drop-map h ((k + 1) * size) cells)) ∙ get_or-drop ((k + 1) * size) (map h cells) i nought_rectangle
 
   pub column_zero : (j : ℕ) → k + 1 + j < size → Out gaps (k * size + (k + 1 + j)) → ZeroAt (map h (drop 1 line)) j
   column_zero j m out =
       let e : map h (drop 1 line) ≡ drop 1 (pivot_row size k (map h cells)) = sym (drop-map h 1 line) ∙ ap (drop 1) (first_is h k size cells done line ed ef) in
-      ap (λ xs. get_or xs j nought_box) e ∙ tail_at (map h cells) size k j nought_box m ∙ zeros (k * size + (k + 1 + j)) out
+      ap (λ xs. get_or xs j nought_rectangle) e ∙ tail_at (map h cells) size k j nought_rectangle m ∙ zeros (k * size + (k + 1 + j)) out
 
   pub row_zero : (r : ℕ) → k + 1 + r < size → Out gaps (k * size + (k + 1 + r)) → ZeroAt (map h later) (r * size + k)
   row_zero r m out =
       let across = fill.across k (k + 1 + r) l m out in
-      later_at (r * size + k) ∙ ap (λ i. get_or (map h cells) i nought_box) (later_place k size r k) ∙ zeros ((k + 1 + r) * size + k) across
+      later_at (r * size + k) ∙ ap (λ i. get_or (map h cells) i nought_rectangle) (later_place k size r k) ∙ zeros ((k + 1 + r) * size + k) across
 
   pub column_zeros : (new : List R) → length cells ≡ size * size → KeepsZeros (map h (drop 1 line)) (size - 1 - k) size k (map h later) (map h new) → ZeroOutside gaps (map h (done ++ new))
   column_zeros new square keeps q out =
@@ -110,9 +110,9 @@ module _ {R : Type 0} (h : R → Box) (gaps : List ℕ) (size k : ℕ) (cells do
       by_lt q b
       (λ (m : q < b).
       let front : take b (map h (done ++ new)) ≡ take b (map h cells) = ap (take b) (map-append h done new) ∙ take_at (map h done) (map h new) b ld ∙ ap (map h) ed ∙ sym (take-map h b cells) in
-      sym (get_or-take b (map h (done ++ new)) q nought_box m) ∙ ap (λ xs. get_or xs q nought_box) front ∙ get_or-take b (map h cells) q nought_box m ∙ zeros q out)
+      sym (get_or-take b (map h (done ++ new)) q nought_rectangle m) ∙ ap (λ xs. get_or xs q nought_rectangle) front ∙ get_or-take b (map h cells) q nought_rectangle m ∙ zeros q out)
       (λ (m : b ≤ q).
       let e : b + (q - b) ≡ q = omega arith in
       let o : Out (drop b gaps) (q - b) = get_or-drop b gaps (q - b) 1 ∙ subst (Out gaps) (sym e) out in
       let back : drop b (map h (done ++ new)) ≡ map h new = ap (drop b) (map-append h done new) ∙ drop_at (map h done) (map h new) b ld in
-      subst (ZeroAt (map h (done ++ new))) e (sym (get_or-drop b (map h (done ++ new)) (q - b) nought_box) ∙ ap (λ xs. get_or xs (q - b) nought_box) back ∙ behind (q - b) o))
+      subst (ZeroAt (map h (done ++ new))) e (sym (get_or-drop b (map h (done ++ new)) (q - b) nought_rectangle) ∙ ap (λ xs. get_or xs (q - b) nought_rectangle) back ∙ behind (q - b) o))

@@ -4,10 +4,12 @@ use Rattle.std.proofs.lemmas.Bool.{cases_Bool}
 use Rattle.std.proofs.lemmas.List.{get_or-take, get_or-drop, get_or-replicate, get_or_default, get_or_past, length-replicate}
 use Rattle.std.proofs.lemmas.List.Elements.{All-weaker}
 use Rattle.plain_elimination.specs.declared.pattern.Spot.{Spot}
-use Rattle.plain_elimination.specs.Matrix.{nought_box}
+use Rattle.plain_elimination.specs.Matrix.{nought_rectangle}
 use Rattle.plain_elimination.proofs.Layouts.{row_fits}
 use Rattle.plain_elimination.proofs.Places.{row_length}
-use Rattle.sparse_rows.specs.Bench.{IsNoPlace, IsBench}
+use Rattle.plain_elimination.specs.Pattern.{IsNoPlace}
+use Rattle.plain_elimination.specs.declared.limits.TheConstants.{MAX_SIZE}
+use Rattle.sparse_rows.specs.Bench.{IsBench}
 use Rattle.sparse_rows.specs.Gaps.{gaps_of}
 use Rattle.sparse_rows.specs.Listed.{Out, ZeroOutside, IsFill}
 use Rattle.sparse_rows.specs.Marks.{IsMarked, IsFilled, HasGaps}
@@ -91,19 +93,19 @@ module _ (n : ℕ) (places : List Spot) (marks : List Bool) (gaps : List ℕ) (f
       (λ s m er ec. not_both row column lr lc (ap₂ (λ r c. get_or marks (r * n + c) false) (sym er) (sym ec) ∙ m) out)
       places filled.covers
 
-  zeros : ZeroOutside gaps (replicate (n * n) nought_box)
+  zeros : ZeroOutside gaps (replicate (n * n) nought_rectangle)
   zeros q out =
       by_lt q (n * n)
-      (λ (l : q < n * n). get_or-replicate (n * n) q nought_box nought_box l)
-      (λ (l : n * n ≤ q). get_or_past (replicate (n * n) nought_box) q nought_box (omega (arith, length-replicate (n * n) nought_box)))
+      (λ (l : q < n * n). get_or-replicate (n * n) q nought_rectangle nought_rectangle l)
+      (λ (l : n * n ≤ q). get_or_past (replicate (n * n) nought_rectangle) q nought_rectangle (omega (arith, length-replicate (n * n) nought_rectangle)))
 
-  pub bench : 1 ≤ n → n ≤ 4096 → IsBench n places gaps (replicate (n * n) nought_box) (replicate n nought_box)
+  pub bench : 1 ≤ n → n ≤ MAX_SIZE → IsBench n places gaps (replicate (n * n) nought_rectangle) (replicate n nought_rectangle)
   bench some few = record {
     some = some;
     few = few;
     gap_size = size;
-    square = length-replicate (n * n) nought_box;
-    side_size = length-replicate n nought_box;
+    square = length-replicate (n * n) nought_rectangle;
+    side_size = length-replicate n nought_rectangle;
     fill = fill;
     zeros = zeros;
     covered = covered;

@@ -3,7 +3,7 @@ use Rattle.std.proofs.Common.{◌≡◌, ℕ, zero, suc, ◌+◌, ◌-◌, ◌*�
 use Rattle.std.proofs.lemmas.List.{drop_more, drop_all, take_all, take_more, take_more_set, drop-set-lt, get_or-take, get_or-drop, length-map, length-drop, length-take-le, map-set}
 use Rattle.std.specs.Prelude.{if◌then◌else◌}
 use Rattle.exact_algebra.proofs.Differences.{products}
-use Rattle.plain_elimination.specs.Elimination.{Boxes, Line, and_then, bind, or_fail, later_row, later_rows, sweep, later_line, later_lines, lines_of, reduce_step, solve_step}
+use Rattle.plain_elimination.specs.Elimination.{Enclosures, Line, and_then, bind, or_fail, later_row, later_rows, sweep, later_line, later_lines, lines_of, reduce_step, solve_step}
 use Rattle.plain_elimination.specs.Layout.{rows_of, from_column, rows_left, lines_left, pivot_row}
 use Rattle.plain_elimination.specs.declared.failure.Failure.{Failure}
 use Rattle.plain_elimination.specs.declared.failure.Failure.TheVariants.{OutOfRange}
@@ -36,18 +36,18 @@ column_same z (suc n) w c xs ys same =
     in
     ap₂ (λ x rest. x ∷ rest) first (column_same z n w c (drop w xs) (drop w ys) rest)
 
-module _ (B : Boxes) where
-  open B use {Box, holds_zero, is_zero, sub, mul, div}
+module _ (B : Enclosures) where
+  open B use {Enclosure, holds_zero, is_zero, sub, mul, div}
 
   -- ---- the right sides of a step, from what is left after r of them
-  abbrev pub SidedTo : {R : Type 0} → (R → Box) → Box → Box → List Box → List R → List R → ℕ → Type 0
+  abbrev pub SidedTo : {R : Type 0} → (R → Enclosure) → Enclosure → Enclosure → List Enclosure → List R → List R → ℕ → Type 0
   SidedTo h pivot b0 entries old right r = later_sides B pivot b0 entries (map h old) ≡ after (take r (map h right)) (later_sides B pivot b0 (drop r entries) (drop r (map h right)))
 
-  pub sided_none : {R : Type 0} (h : R → Box) (pivot b0 : Box) (entries : List Box) (right : List R) → SidedTo h pivot b0 entries right right 0
+  pub sided_none : {R : Type 0} (h : R → Enclosure) (pivot b0 : Enclosure) (entries : List Enclosure) (right : List R) → SidedTo h pivot b0 entries right right 0
   sided_none h pivot b0 entries right = sym (after_none (later_sides B pivot b0 entries (map h right)))
 
   -- one more
-  pub sided_more : {R : Type 0} (h : R → Box) (z pivot b0 a : Box) (entries : List Box) (old right : List R) (r : ℕ) (b d : R) → r < length entries → r < length right → get_or entries r z ≡ a → b ≡ get_or right r b
+  pub sided_more : {R : Type 0} (h : R → Enclosure) (z pivot b0 a : Enclosure) (entries : List Enclosure) (old right : List R) (r : ℕ) (b d : R) → r < length entries → r < length right → get_or entries r z ≡ a → b ≡ get_or right r b
       → Some (h d) ≡ later_side B pivot b0 a (h b) → SidedTo h pivot b0 entries old right r → SidedTo h pivot b0 entries old (set right r d) (r + 1)
   sided_more h z pivot b0 a entries old right r b d le lr ea eb side k =
       let e : drop r entries ≡ a ∷ drop (r + 1) entries = drop_more entries r z le ∙ ap (λ x. x ∷ drop (r + 1) entries) ea in
@@ -56,14 +56,14 @@ module _ (B : Boxes) where
       (after_push (take r (map h right)) (h d) (later_sides B pivot b0 (drop (r + 1) entries) (drop (r + 1) (map h right))))
 
   -- one without a value
-  pub sided_err : {R : Type 0} (h : R → Box) (z pivot b0 a : Box) (entries : List Box) (old right : List R) (r : ℕ) (b : R) → r < length entries → r < length right → get_or entries r z ≡ a → b ≡ get_or right r b
+  pub sided_err : {R : Type 0} (h : R → Enclosure) (z pivot b0 a : Enclosure) (entries : List Enclosure) (old right : List R) (r : ℕ) (b : R) → r < length entries → r < length right → get_or entries r z ≡ a → b ≡ get_or right r b
       → None ≡ later_side B pivot b0 a (h b) → SidedTo h pivot b0 entries old right r → later_sides B pivot b0 entries (map h old) ≡ None
   sided_err h z pivot b0 a entries old right r b le lr ea eb side k =
       let e : drop r entries ≡ a ∷ drop (r + 1) entries = drop_more entries r z le ∙ ap (λ x. x ∷ drop (r + 1) entries) ea in
       k ∙ rw (e, read h right r b lr eb, ← side) refl
 
   -- where the entry is zero the right side stays
-  skip_side : {R : Type 0} (h : R → Box) (z : Box) (laws : ZeroLaws B h z) (pivot b0 : Box) (entries : List Box) (old right : List R) (r : ℕ) → r < length entries → r < length right → get_or entries r z ≡ z
+  skip_side : {R : Type 0} (h : R → Enclosure) (z : Enclosure) (laws : ZeroLaws B h z) (pivot b0 : Enclosure) (entries : List Enclosure) (old right : List R) (r : ℕ) → r < length entries → r < length right → get_or entries r z ≡ z
       → SidedTo h pivot b0 entries old right r → SidedTo h pivot b0 entries old right (r + 1)
   skip_side h z laws pivot b0 entries old right r le lr zero_there k =
       let xs = map h right in
@@ -73,40 +73,40 @@ module _ (B : Boxes) where
       let et : take (r + 1) xs ≡ take r xs ++ b ∷ [] = take_more xs r z (rw (length-map right h) lr) in
       k ∙ rw (e, er, et, laws.alone) (after_push (take r xs) b (later_sides B pivot b0 (drop (r + 1) entries) (drop (r + 1) xs)))
 
-  pub skip_sides : {R : Type 0} (h : R → Box) (z : Box) (laws : ZeroLaws B h z) (pivot b0 : Box) (entries : List Box) (old right : List R) (d r m : ℕ) → r + d ≡ m → m ≤ length entries → m ≤ length right
+  pub skip_sides : {R : Type 0} (h : R → Enclosure) (z : Enclosure) (laws : ZeroLaws B h z) (pivot b0 : Enclosure) (entries : List Enclosure) (old right : List R) (d r m : ℕ) → r + d ≡ m → m ≤ length entries → m ≤ length right
       → ((q : ℕ) → r ≤ q → q < m → get_or entries q z ≡ z) → SidedTo h pivot b0 entries old right r → SidedTo h pivot b0 entries old right m
   skip_sides h z laws pivot b0 entries old right zero r m e le lr zeros k = subst (λ q. SidedTo h pivot b0 entries old right q) (omega arith) k
   skip_sides h z laws pivot b0 entries old right (suc d) r m e le lr zeros k =
       skip_sides h z laws pivot b0 entries old right d (r + 1) m (omega arith) le lr (λ q u v. zeros q (omega arith) v)
       (skip_side h z laws pivot b0 entries old right r (omega arith) (omega arith) (zeros r (omega arith) (omega arith)) k)
 
-  pub sided_all : {R : Type 0} (h : R → Box) (pivot b0 : Box) (entries : List Box) (old right : List R) (r : ℕ) → length entries ≤ r → length right ≤ r
+  pub sided_all : {R : Type 0} (h : R → Enclosure) (pivot b0 : Enclosure) (entries : List Enclosure) (old right : List R) (r : ℕ) → length entries ≤ r → length right ≤ r
       → SidedTo h pivot b0 entries old right r → later_sides B pivot b0 entries (map h old) ≡ Some (map h right)
   sided_all h pivot b0 entries old right r le lr k =
       k ∙ rw (drop_all r entries le, take_all r (map h right) (rw (length-map right h) lr)) (ap Some (append-nil (map h right)))
 
   -- ---- rows and right sides of a step
-  abbrev beside : List Box → Box → Line B
+  abbrev beside : List Enclosure → Enclosure → Line B
   beside row b = record { left = row; right = b }
 
-  after_factor : (o : Option (List Box)) (q : Option Box) (less : Box → Option Box)
+  after_factor : (o : Option (List Enclosure)) (q : Option Enclosure) (less : Enclosure → Option Enclosure)
       → and_then o (λ swept. and_then q (λ t. and_then (less t) (λ d. Some (beside swept d)))) ≡ and_then o (λ s. and_then (and_then q less) (λ d. Some (beside s d)))
   after_factor None q less = refl
   after_factor (Some x) None less = refl
   after_factor (Some x) (Some t) less = refl
 
-  by_test : (zero_there : Bool) (b : Box) (row : List Box) (q : Option Box) (swept : Box → Option (List Box)) (times less : Box → Option Box)
+  by_test : (zero_there : Bool) (b : Enclosure) (row : List Enclosure) (q : Option Enclosure) (swept : Enclosure → Option (List Enclosure)) (times less : Enclosure → Option Enclosure)
       → (if zero_there then Some (beside row b) else and_then q (λ f. and_then (swept f) (λ s. and_then (times f) (λ t. and_then (less t) (λ d. Some (beside s d))))))
       ≡ and_then (if zero_there then Some row else and_then q swept) (λ s. and_then (if zero_there then Some b else and_then q (λ f. and_then (times f) less)) (λ d. Some (beside s d)))
   by_test true b row q swept times less = refl
   by_test false b row None swept times less = refl
   by_test false b row (Some f) swept times less = after_factor (swept f) (times f) less
 
-  line_apart : (pivot b0 a b : Box) (first row : List Box)
+  line_apart : (pivot b0 a b : Enclosure) (first row : List Enclosure)
       → later_line B pivot first b0 (a ∷ row) b ≡ and_then (later_row B pivot first (a ∷ row)) (λ s. and_then (later_side B pivot b0 a b) (λ d. Some (beside s d)))
   line_apart pivot b0 a b first row = by_test (is_zero a) b row (div a pivot) (λ f. sweep B f first row) (λ f. mul f b0) (λ t. sub b t)
 
-  swap : (p : Option (List Box)) (q : Option Box) (ps : Option (List (List Box))) (qs : Option (List Box))
+  swap : (p : Option (List Enclosure)) (q : Option Enclosure) (ps : Option (List (List Enclosure))) (qs : Option (List Enclosure))
       → and_then (and_then p (λ s. and_then q (λ d. Some (beside s d)))) (λ l. and_then (and_then ps (λ ss. and_then qs (λ ds. Some (lines_of B ss ds)))) (λ ls. Some (l ∷ ls)))
       ≡ and_then (and_then p (λ s. and_then ps (λ ss. Some (s ∷ ss)))) (λ rs. and_then (and_then q (λ d. and_then qs (λ ds. Some (d ∷ ds)))) (λ bs. Some (lines_of B rs bs)))
   swap None q ps qs = refl
@@ -116,7 +116,7 @@ module _ (B : Boxes) where
   swap (Some s) (Some d) (Some ss) None = refl
   swap (Some s) (Some d) (Some ss) (Some ds) = refl
 
-  joined : (z pivot b0 : Box) (first : List Box) (n w c : ℕ) (xs right : List Box) → c < w → n * w ≤ length xs → length right ≡ n
+  joined : (z pivot b0 : Enclosure) (first : List Enclosure) (n w c : ℕ) (xs right : List Enclosure) → c < w → n * w ≤ length xs → length right ≡ n
       → later_lines B pivot first b0 (lines_of B (from_column c (rows_of n w xs)) right)
       ≡ and_then (later_rows B pivot first (from_column c (rows_of n w xs))) (λ rs. and_then (later_sides B pivot b0 (column_of z n w c xs) right) (λ bs. Some (lines_of B rs bs)))
   joined z pivot b0 first zero w c xs right l fits e = refl
@@ -134,7 +134,7 @@ module _ (B : Boxes) where
   or_fail-and_then e None f = refl
   or_fail-and_then e (Some x) f = refl
 
-  step_of : (z p b0 : Box) (first : List Box) (step n w c : ℕ) (xs right : List Box) → c < w → n * w ≤ length xs → length right ≡ n
+  step_of : (z p b0 : Enclosure) (first : List Enclosure) (step n w c : ℕ) (xs right : List Enclosure) → c < w → n * w ≤ length xs → length right ≡ n
       → solve_step B step (record { left = p ∷ first; right = b0 } ∷ lines_of B (from_column c (rows_of n w xs)) right)
       ≡ bind (reduce_step B step ((p ∷ first) ∷ from_column c (rows_of n w xs))) (λ rs. or_fail (OutOfRange step) (and_then (later_sides B p b0 (column_of z n w c xs) right) (λ bs. Some (lines_of B rs bs))))
   step_of z p b0 first step n w c xs right l fits sides = go (holds_zero p) refl
@@ -149,7 +149,7 @@ module _ (B : Boxes) where
           ∙ or_fail-and_then (OutOfRange step) (later_rows B p first (from_column c (rows_of n w xs))) (λ rs. and_then (later_sides B p b0 (column_of z n w c xs) right) (λ bs. Some (lines_of B rs bs))))
 
   -- a step of a system, by the step of its rows and the step of its right sides
-  step_apart : (z : Box) (size c : ℕ) (cells right : List Box) → c < size → length cells ≡ size * size → length right ≡ size
+  step_apart : (z : Enclosure) (size c : ℕ) (cells right : List Enclosure) → c < size → length cells ≡ size * size → length right ≡ size
       → solve_step B (c + 1) (lines_left B size c cells right)
       ≡ bind (reduce_step B (c + 1) (rows_left size c cells)) (λ rs.
       or_fail (OutOfRange (c + 1)) (and_then (later_sides B (get_or cells (c * size + c) z) (get_or right c z) (column_of z (size - 1 - c) size c (drop ((c + 1) * size) cells)) (drop (c + 1) right)) (λ bs. Some (lines_of B rs bs))))
@@ -166,12 +166,12 @@ module _ (B : Boxes) where
       ∙ step_of z p b0 (drop 1 row) (c + 1) (size - 1 - c) size c xs (drop (c + 1) right) l (omega (arith, length-drop ((c + 1) * size) cells)) (length-drop (c + 1) right ∙ omega arith)
       ∙ ap (λ rs. bind (reduce_step B (c + 1) rs) (λ ss. or_fail (OutOfRange (c + 1)) (and_then (later_sides B p b0 (column_of z (size - 1 - c) size c xs) (drop (c + 1) right)) (λ bs. Some (lines_of B ss bs))))) (sym rows)
 
-  pub step_err : (z : Box) (size c : ℕ) (cells right : List Box) (f : Failure) → c < size → length cells ≡ size * size → length right ≡ size
+  pub step_err : (z : Enclosure) (size c : ℕ) (cells right : List Enclosure) (f : Failure) → c < size → length cells ≡ size * size → length right ≡ size
       → Err f ≡ reduce_step B (c + 1) (rows_left size c cells) → Err f ≡ solve_step B (c + 1) (lines_left B size c cells right)
   step_err z size c cells right f l square sides e = rw (step_apart z size c cells right l square sides, ← e) refl
 
   -- where the rows are done first, and the right sides are done by the new rows
-  pub step_done : (z : Box) (size c : ℕ) (cells new right : List Box) (o : Option (List Box)) → c < size → length cells ≡ size * size → length right ≡ size
+  pub step_done : (z : Enclosure) (size c : ℕ) (cells new right : List Enclosure) (o : Option (List Enclosure)) → c < size → length cells ≡ size * size → length right ≡ size
       → Ok (rows_left size (c + 1) new) ≡ reduce_step B (c + 1) (rows_left size c cells) → take ((c + 1) * size) new ≡ take ((c + 1) * size) cells
       → column_of z (size - 1 - c) size c (drop ((c + 1) * size) new) ≡ column_of z (size - 1 - c) size c (drop ((c + 1) * size) cells)
       → o ≡ later_sides B (get_or new (c * size + c) z) (get_or right c z) (column_of z (size - 1 - c) size c (drop ((c + 1) * size) new)) (drop (c + 1) right)
@@ -183,6 +183,6 @@ module _ (B : Boxes) where
       sym (get_or-take ((c + 1) * size) new (c * size + c) z front) ∙ ap (λ xs. get_or xs (c * size + c) z) kept ∙ get_or-take ((c + 1) * size) cells (c * size + c) z front in
       rw (step_apart z size c cells right l square sides, ← rows, e, pivot, column) refl
 
-  pub sides_same : (z p p' b b' : Box) (n n' w w' : ℕ) (cells cells' right right' : List Box) (c : ℕ) → p ≡ p' → b ≡ b' → n ≡ n' → w ≡ w' → cells ≡ cells' → right ≡ right'
+  pub sides_same : (z p p' b b' : Enclosure) (n n' w w' : ℕ) (cells cells' right right' : List Enclosure) (c : ℕ) → p ≡ p' → b ≡ b' → n ≡ n' → w ≡ w' → cells ≡ cells' → right ≡ right'
       → later_sides B p b (column_of z n w c cells) right ≡ later_sides B p' b' (column_of z n' w' c cells') right'
   sides_same z p p' b b' n n' w w' cells cells' right right' c ep eb en ew ec er = rw (ep, eb, en, ew, ec, er) refl

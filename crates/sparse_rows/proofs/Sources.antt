@@ -1,9 +1,9 @@
 -- A matrix that is zero outside a pattern is zero outside its fill.
 use Rattle.std.proofs.Common.{◌≡◌, ℕ, ◌+◌, ◌*◌, ◌<◌, ◌≤◌, List, length, get_or, map, Some, refl, sym, ap, ◌∙◌, arith}
 use Rattle.std.proofs.lemmas.List.{get_or_default, get_or_past, map-id}
-use Rattle.complex_interval.specs.Boxes.{Box}
+use Rattle.complex_interval.specs.Rectangles.{Rectangle}
 use Rattle.plain_elimination.specs.Layout.{rows_of}
-use Rattle.plain_elimination.specs.Matrix.{Square, entry, nought_box}
+use Rattle.plain_elimination.specs.Matrix.{Square, entry, nought_rectangle}
 use Rattle.plain_elimination.proofs.Layouts.{row_fits}
 use Rattle.plain_elimination.proofs.Places.{entry_read}
 use Rattle.sparse_rows.specs.Bench.{Places, IsBench, Keeps}
@@ -11,18 +11,18 @@ use Rattle.sparse_rows.specs.Listed.{Out, ZeroAt, ZeroOutside}
 use Rattle.sparse_rows.proofs.Loads.{by_place}
 use Rattle.sparse_rows.proofs.Outside.{by_lt}
 
-entry_zero : (n a b : ℕ) (xs : List Box) → a < n → b < n → length xs ≡ n * n → entry (rows_of n n xs) a b ≡ Some nought_box → ZeroAt xs (a * n + b)
+entry_zero : (n a b : ℕ) (xs : List Rectangle) → a < n → b < n → length xs ≡ n * n → entry (rows_of n n xs) a b ≡ Some nought_rectangle → ZeroAt xs (a * n + b)
 entry_zero n a b xs la lb square e =
     let fits = row_fits a n n la in
     let i = a * n + b in
     let li : i < length xs = omega arith in
-    let x = get_or xs i nought_box in
-    let read : entry (rows_of n n (map (λ (y : Box). y) xs)) a b ≡ Some x = entry_read (λ y. y) n a b i xs x la lb square refl (omega arith) (get_or_default xs i nought_box x li) in
+    let x = get_or xs i nought_rectangle in
+    let read : entry (rows_of n n (map (λ (y : Rectangle). y) xs)) a b ≡ Some x = entry_read (λ y. y) n a b i xs x la lb square refl (omega arith) (get_or_default xs i nought_rectangle x li) in
     let read' : entry (rows_of n n xs) a b ≡ Some x = ap (λ ys. entry (rows_of n n ys) a b) (sym (map-id xs)) ∙ read in
-    let same : Some x ≡ Some nought_box = sym read' ∙ e in
+    let same : Some x ≡ Some nought_rectangle = sym read' ∙ e in
     cc
 
-pub zero_source : (pattern : Places) (matrix : Square) (gaps : List ℕ) (cells sides xs : List Box) → IsBench pattern.size pattern.places gaps cells sides → matrix.size ≡ pattern.size → Keeps pattern matrix
+pub zero_source : (pattern : Places) (matrix : Square) (gaps : List ℕ) (cells sides xs : List Rectangle) → IsBench pattern.size pattern.places gaps cells sides → matrix.size ≡ pattern.size → Keeps pattern matrix
     → rows_of matrix.size matrix.size xs ≡ matrix.rows → length xs ≡ matrix.size * matrix.size → ZeroOutside gaps xs
 zero_source pattern matrix gaps cells sides xs bench es keeps rows square q out =
     let n = pattern.size in
@@ -33,8 +33,8 @@ zero_source pattern matrix gaps cells sides xs bench es keeps rows square q out 
     by_place (λ p. Out gaps p → ZeroAt xs p) n n q l
     (λ a b la lb o. entry_zero n a b xs la lb square' (ap (λ rs. entry rs a b) rows' ∙ keeps a b la lb (bench.covered a b la lb o)))
     out)
-    (λ (l : n * n ≤ q). get_or_past xs q nought_box (omega arith))
+    (λ (l : n * n ≤ q). get_or_past xs q nought_rectangle (omega arith))
 
 -- the rows by the size of the pattern
-pub rows_same : (n m : ℕ) (xs : List Box) (rows : List (List Box)) → m ≡ n → rows_of m m xs ≡ rows → rows_of n n xs ≡ rows
+pub rows_same : (n m : ℕ) (xs : List Rectangle) (rows : List (List Rectangle)) → m ≡ n → rows_of m m xs ≡ rows → rows_of n n xs ≡ rows
 rows_same n m xs rows e k = ap (λ i. rows_of i i xs) (sym e) ∙ k

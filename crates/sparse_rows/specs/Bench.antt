@@ -1,9 +1,10 @@
 -- What contracts see of a bench.
 use Rattle.std.specs.Prelude.{ℕ, ◌*◌, ◌+◌, ◌<◌, ◌≤◌, ◌≡◌, List, Some, length}
-use Rattle.std.specs.List.{All}
-use Rattle.complex_interval.specs.Boxes.{Box}
+use Rattle.complex_interval.specs.Rectangles.{Rectangle}
 use Rattle.plain_elimination.specs.declared.pattern.Spot.{Spot}
-use Rattle.plain_elimination.specs.Matrix.{Square, entry, nought_box}
+use Rattle.plain_elimination.specs.Matrix.{Square, entry, nought_rectangle}
+use Rattle.plain_elimination.specs.Pattern.{IsNoPlace}
+use Rattle.plain_elimination.specs.declared.limits.TheConstants.{MAX_SIZE}
 use Rattle.sparse_rows.specs.Listed.{Out, ZeroOutside, IsFill}
 
 -- a pattern: its size and its places
@@ -11,18 +12,14 @@ pub record Places : Type 0 where
   pub size : ℕ
   pub places : List Spot
 
--- no place of the list is in this row and this column
-abbrev pub IsNoPlace : List Spot → ℕ → ℕ → Type 0
-IsNoPlace places row column = All (λ s. s.row ≡ row → s.column ≡ column → ⊥) places
-
 -- each entry outside the pattern is exact zero
 abbrev pub Keeps : Places → Square → Type 0
-Keeps pattern matrix = (row column : ℕ) → row < pattern.size → column < pattern.size → IsNoPlace pattern.places row column → entry matrix.rows row column ≡ Some nought_box
+Keeps pattern matrix = (row column : ℕ) → row < pattern.size → column < pattern.size → IsNoPlace pattern.places row column → entry matrix.rows row column ≡ Some nought_rectangle
 
 -- a bench of a pattern
-pub record IsBench (size : ℕ) (places : List Spot) (gaps : List ℕ) (cells sides : List Box) : Type 0 where
+pub record IsBench (size : ℕ) (places : List Spot) (gaps : List ℕ) (cells sides : List Rectangle) : Type 0 where
   pub some : 1 ≤ size
-  pub few : size ≤ 4096
+  pub few : size ≤ MAX_SIZE
   pub gap_size : length gaps ≡ size * size
   pub square : length cells ≡ size * size
   pub side_size : length sides ≡ size

@@ -1,13 +1,14 @@
 // A bench on which matrices of one pattern are reduced.
 ghost use Rattle.std.specs.Prelude.{◌≡◌, ◌*◌, ◌<◌, ◌≤◌, Ok, IfOk, OnOk, length, map};
-ghost use Rattle.complex_interval.specs.Rect.{box_of};
+ghost use Rattle.complex_interval.specs.Rect.{rectangle_of};
 ghost use Rattle.plain_elimination.specs.Elimination.{bind, reduce, solve};
 ghost use Rattle.plain_elimination.specs.Layout.{rows_of};
 ghost use Rattle.plain_elimination.specs.Matrix.{HoldsComplements, HoldsSolutions};
-ghost use Rattle.plain_elimination.specs.Rectangles.{boxes, reduce_boxes, solve_boxes};
+ghost use Rattle.plain_elimination.specs.Rectangles.{rectangles, reduce_rectangles, solve_rectangles};
 ghost use Rattle.sparse_rows.specs.Bench.{Keeps};
 ghost use Rattle.sparse_rows.specs.Listed.{ZeroOutside, IsFill};
 ghost use Rattle.sparse_rows.specs.Marks.{AreInside};
+ghost use Rattle.plain_elimination.specs.declared.limits.TheConstants.{MAX_SIZE};
 
 use crate::fill::marks_of;
 use crate::gaps::gaps_of;
@@ -32,14 +33,14 @@ pub struct SparseBench<E: Enclosure> {
 
 impl<E: Enclosure> Model for SparseBench<E> {
     ghost use Rattle.std.specs.Prelude.{◌≡◌, ◌*◌, ◌≤◌, ℕ, length, map};
-    ghost use Rattle.complex_interval.specs.Rect.{box_of};
+    ghost use Rattle.complex_interval.specs.Rect.{rectangle_of};
     ghost use Rattle.sparse_rows.specs.Bench.{Places, IsBench};
 
     ghost Value = { Places };
 
     ghost view = { λ b. record { size = b.size; places = b.places.items } };
 
-    ghost invariant = { λ b. IsBench b.size b.places.items b.gaps.items (map (box_of E.ends) b.cells.items) (map (box_of E.ends) b.sides.items) };
+    ghost invariant = { λ b. IsBench b.size b.places.items b.gaps.items (map (rectangle_of E.ends) b.cells.items) (map (rectangle_of E.ends) b.sides.items) };
 }
 
 // The reduction of these entries on cells that are zero where no place is listed.
@@ -50,16 +51,16 @@ fn reduce_from<E: Enclosure>(
     size: usize,
 ) -> Result<Rect<E>, Failure>
     requires some { 0 < size }
-    requires few { size ≤ 4096 }
+    requires few { size ≤ MAX_SIZE }
     requires square { length cells.old ≡ size * size }
     requires sizes { length source.now ≡ length cells.old }
     requires gap_size { length gaps.now ≡ size * size }
     requires fill { IsFill gaps.now size }
-    requires zeros { ZeroOutside gaps.now (map (box_of E.ends) cells.old) }
-    requires outside { ZeroOutside gaps.now (map (box_of E.ends) source.now) }
-    ensures stated { bind result (λ value. Ok (box_of E.ends value))
-        ≡ reduce (boxes E.SCALE) (rows_of size size (map (box_of E.ends) source.now)) }
-    ensures zeros { ZeroOutside gaps.now (map (box_of E.ends) cells.new) }
+    requires zeros { ZeroOutside gaps.now (map (rectangle_of E.ends) cells.old) }
+    requires outside { ZeroOutside gaps.now (map (rectangle_of E.ends) source.now) }
+    ensures stated { bind result (λ value. Ok (rectangle_of E.ends value))
+        ≡ reduce (rectangles E.SCALE) (rows_of size size (map (rectangle_of E.ends) source.now)) }
+    ensures zeros { ZeroOutside gaps.now (map (rectangle_of E.ends) cells.new) }
 {
     load_listed(cells, source, gaps, size);
     reduce_listed(cells, gaps, size)
@@ -74,18 +75,18 @@ fn solve_from<E: Enclosure>(
     right: &mut Column<E>,
     size: usize,
 ) -> Result<(), Failure>
-    requires few { size ≤ 4096 }
+    requires few { size ≤ MAX_SIZE }
     requires square { length cells.old ≡ size * size }
     requires side_size { length sides.old ≡ size }
     requires sizes { length source.now ≡ length cells.old }
     requires right_size { length right.old ≡ size }
     requires gap_size { length gaps.now ≡ size * size }
     requires fill { IsFill gaps.now size }
-    requires zeros { ZeroOutside gaps.now (map (box_of E.ends) cells.old) }
-    requires outside { ZeroOutside gaps.now (map (box_of E.ends) source.now) }
-    ensures stated { bind result (λ _. Ok right.new) ≡ solve (boxes E.SCALE) (rows_of size size (map (box_of E.ends) source.now)) right.old }
+    requires zeros { ZeroOutside gaps.now (map (rectangle_of E.ends) cells.old) }
+    requires outside { ZeroOutside gaps.now (map (rectangle_of E.ends) source.now) }
+    ensures stated { bind result (λ _. Ok right.new) ≡ solve (rectangles E.SCALE) (rows_of size size (map (rectangle_of E.ends) source.now)) right.old }
     ensures right_size { length right.new ≡ size }
-    ensures zeros { ZeroOutside gaps.now (map (box_of E.ends) cells.new) }
+    ensures zeros { ZeroOutside gaps.now (map (rectangle_of E.ends) cells.new) }
 {
     load_listed(cells, source, gaps, size);
     load_sides(sides, right);
@@ -99,7 +100,7 @@ impl<E: Enclosure> SparseBench<E> {
     /// memory.
     pub fn new(alloc: Global, pattern: &Pattern) -> Result<SparseBench<E>, AllocError>
         requires some { 1 ≤ pattern.now.size }
-        requires few { pattern.now.size ≤ 4096 }
+        requires few { pattern.now.size ≤ MAX_SIZE }
         requires inside { AreInside pattern.now.size pattern.now.places.items }
         ensures { IfOk result (λ b. b ≡ record { size = pattern.now.size; places = pattern.now.places.items }) }
     {
@@ -122,8 +123,8 @@ impl<E: Enclosure> SparseBench<E> {
     pub fn reduce(&mut self, matrix: &Matrix<E>) -> Result<Rect<E>, Failure>
         requires size { matrix.now.size ≡ self.old.size }
         requires outside { Keeps self.old matrix.now }
-        ensures stated { bind result (λ value. Ok (box_of E.ends value)) ≡ reduce_boxes E.SCALE matrix.now.rows }
-        ensures held { IfOk result (λ value. HoldsComplements E.SCALE matrix.now (box_of E.ends value)) }
+        ensures stated { bind result (λ value. Ok (rectangle_of E.ends value)) ≡ reduce_rectangles E.SCALE matrix.now.rows }
+        ensures held { IfOk result (λ value. HoldsComplements E.SCALE matrix.now (rectangle_of E.ends value)) }
         ensures kept { self.new ≡ self.old }
     {
         let size = self.size as usize;
@@ -140,7 +141,7 @@ impl<E: Enclosure> SparseBench<E> {
         requires size { matrix.now.size ≡ self.old.size }
         requires sizes { length right.old ≡ matrix.now.size }
         requires outside { Keeps self.old matrix.now }
-        ensures stated { bind result (λ _. Ok right.new) ≡ solve_boxes E.SCALE matrix.now.rows right.old }
+        ensures stated { bind result (λ _. Ok right.new) ≡ solve_rectangles E.SCALE matrix.now.rows right.old }
         ensures held { OnOk result (HoldsSolutions E.SCALE matrix.now right.old right.new) }
         ensures right_size { length right.new ≡ length right.old }
         ensures kept { self.new ≡ self.old }

@@ -2,13 +2,14 @@
 // fill of all rows is marked, as an elimination tree gives it.
 ghost use Rattle.std.specs.Prelude.{◌≡◌, ℕ, ◌+◌, ◌*◌, ◌<◌, ◌≤◌, IfOk, false, get_or, length, replicate};
 ghost use Rattle.sparse_rows.specs.Marks.{IsMarked, Grown, PassesOn, Covers, AreInside, IsFilled};
+ghost use Rattle.plain_elimination.specs.declared.limits.TheConstants.{MAX_SIZE};
 
 use plain_elimination::Spot;
 use std::alloc::{AllocError, Global};
 
 // Marks a place and the one across the diagonal.
 fn mark(marks: &mut [bool], size: usize, row: usize, column: usize)
-    requires few { size ≤ 4096 }
+    requires few { size ≤ MAX_SIZE }
     requires square { length marks.old ≡ size * size }
     requires row_in { row < size }
     requires column_in { column < size }
@@ -20,7 +21,7 @@ fn mark(marks: &mut [bool], size: usize, row: usize, column: usize)
 }
 
 fn mark_diagonal(marks: &mut [bool], size: usize)
-    requires few { size ≤ 4096 }
+    requires few { size ≤ MAX_SIZE }
     requires square { length marks.old ≡ size * size }
     ensures here { (k : ℕ) → k < size → IsMarked marks.new (k * size + k) }
     ensures grown { Grown size 0 marks.old marks.new }
@@ -31,7 +32,7 @@ fn mark_diagonal(marks: &mut [bool], size: usize)
 }
 
 fn mark_places(marks: &mut [bool], size: usize, places: &[Spot])
-    requires few { size ≤ 4096 }
+    requires few { size ≤ MAX_SIZE }
     requires square { length marks.old ≡ size * size }
     requires inside { AreInside size places.now }
     ensures here { Covers size places.now marks.new }
@@ -49,7 +50,7 @@ fn mark_places(marks: &mut [bool], size: usize, places: &[Spot])
 
 // The first marked column behind the diagonal of this row, or the size.
 fn first_behind(marks: &[bool], size: usize, k: usize) -> usize
-    requires few { size ≤ 4096 }
+    requires few { size ≤ MAX_SIZE }
     requires square { length marks.now ≡ size * size }
     requires row_in { k < size }
     ensures behind { k < result }
@@ -67,7 +68,7 @@ fn first_behind(marks: &[bool], size: usize, k: usize) -> usize
 
 // What is marked in row k behind column p is marked in row p too.
 fn pass_on(marks: &mut [bool], size: usize, k: usize, p: usize)
-    requires few { size ≤ 4096 }
+    requires few { size ≤ MAX_SIZE }
     requires square { length marks.old ≡ size * size }
     requires behind { k < p }
     requires row_in { p < size }
@@ -82,7 +83,7 @@ fn pass_on(marks: &mut [bool], size: usize, k: usize, p: usize)
 }
 
 fn pass_row(marks: &mut [bool], size: usize, k: usize)
-    requires few { size ≤ 4096 }
+    requires few { size ≤ MAX_SIZE }
     requires square { length marks.old ≡ size * size }
     requires row_in { k < size }
     ensures passed { PassesOn size marks.new k }
@@ -95,7 +96,7 @@ fn pass_row(marks: &mut [bool], size: usize, k: usize)
 }
 
 fn pass_rows(marks: &mut [bool], size: usize)
-    requires few { size ≤ 4096 }
+    requires few { size ≤ MAX_SIZE }
     requires square { length marks.old ≡ size * size }
     ensures passed { (k : ℕ) → k < size → PassesOn size marks.new k }
     ensures grown { Grown size 0 marks.old marks.new }
@@ -106,7 +107,7 @@ fn pass_rows(marks: &mut [bool], size: usize)
 }
 
 fn fill_marks(marks: &mut [bool], size: usize, places: &[Spot])
-    requires few { size ≤ 4096 }
+    requires few { size ≤ MAX_SIZE }
     requires clear { marks.old ≡ replicate (size * size) false }
     requires inside { AreInside size places.now }
     ensures { IsFilled size places.now marks.new }
@@ -118,7 +119,7 @@ fn fill_marks(marks: &mut [bool], size: usize, places: &[Spot])
 
 /// The marks of a square of this size at these places, the diagonal, all places across it and all fill.
 pub fn marks_of(alloc: Global, size: usize, places: &[Spot]) -> Result<Vec<bool>, AllocError>
-    requires few { size ≤ 4096 }
+    requires few { size ≤ MAX_SIZE }
     requires inside { AreInside size places.now }
     ensures { IfOk result (λ marks. IsFilled size places.now marks.items) }
 {

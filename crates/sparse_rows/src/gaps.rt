@@ -2,13 +2,14 @@
 ghost use Rattle.std.specs.Prelude.{◌≡◌, ◌*◌, ◌≤◌, IfOk, length};
 ghost use Rattle.sparse_rows.specs.Gaps.{gaps_of};
 ghost use Rattle.sparse_rows.specs.Marks.{HasGaps};
+ghost use Rattle.plain_elimination.specs.declared.limits.TheConstants.{MAX_SIZE};
 
 use std::alloc::{AllocError, Global};
 
 // The gaps of a row of marks, from its end.
 fn fill_gaps(marks: &[bool], gaps: &mut [u32])
     requires sizes { length gaps.old ≡ length marks.now }
-    requires few { length marks.now ≤ 4096 }
+    requires few { length marks.now ≤ MAX_SIZE }
     ensures { gaps.new ≡ gaps_of marks.now }
 {
     let mut gap: u32 = 1;
@@ -27,7 +28,7 @@ fn fill_gaps(marks: &[bool], gaps: &mut [u32])
 
 // The gaps of a square, row by row.
 fn fill_rows(marks: &[bool], gaps: &mut [u32], size: usize)
-    requires few { size ≤ 4096 }
+    requires few { size ≤ MAX_SIZE }
     requires square { length marks.now ≡ size * size }
     requires sizes { length gaps.old ≡ size * size }
     ensures { HasGaps size size marks.now gaps.new }
@@ -41,7 +42,7 @@ fn fill_rows(marks: &[bool], gaps: &mut [u32], size: usize)
 
 /// The gaps of the marks of a square, row after row.
 pub fn gaps_of(alloc: Global, size: usize, marks: &[bool]) -> Result<Vec<u32>, AllocError>
-    requires few { size ≤ 4096 }
+    requires few { size ≤ MAX_SIZE }
     requires square { length marks.now ≡ size * size }
     ensures square { IfOk result (λ gaps. length gaps.items ≡ size * size) }
     ensures rows { IfOk result (λ gaps. HasGaps size size marks.now gaps.items) }

@@ -1,11 +1,12 @@
 // One step of the elimination on a row, at the listed columns.
 ghost use Rattle.std.specs.Prelude.{◌≡◌, ◌≤◌, ◌∷◌, length, map};
 ghost use Rattle.std.specs.Option.{option_map};
-ghost use Rattle.complex_interval.specs.Rect.{box_of};
+ghost use Rattle.complex_interval.specs.Rect.{rectangle_of};
 ghost use Rattle.plain_elimination.specs.Elimination.{sweep, later_row};
-ghost use Rattle.plain_elimination.specs.Rectangles.{boxes};
+ghost use Rattle.plain_elimination.specs.Rectangles.{rectangles};
 ghost use Rattle.sparse_rows.specs.Listed.{Skips, ZeroAt, Agree};
-ghost use Rattle.plain_elimination.specs.Matrix.{nought_box};
+ghost use Rattle.plain_elimination.specs.Matrix.{nought_rectangle};
+ghost use Rattle.plain_elimination.specs.declared.limits.TheConstants.{MAX_SIZE};
 
 use crate::cells::{cell, set_cell};
 use complex_interval::{Enclosure, Rect};
@@ -22,11 +23,11 @@ pub fn sweep_listed<E: Enclosure>(
 ) -> Option<()>
     requires first_size { length first.now ≡ length row.old }
     requires gap_size { length gaps.now ≡ length row.old }
-    requires few { length row.old ≤ 4096 }
-    requires listed { Skips (ZeroAt (map (box_of E.ends) first.now)) gaps.now start }
-    ensures stated { option_map (λ _. map (box_of E.ends) row.new) result
-        ≡ sweep (boxes E.SCALE) (box_of E.ends f) (map (box_of E.ends) first.now) (map (box_of E.ends) row.old) }
-    ensures kept { Agree (ZeroAt (map (box_of E.ends) first.now)) (map (box_of E.ends) row.new) (map (box_of E.ends) row.old) }
+    requires few { length row.old ≤ MAX_SIZE }
+    requires listed { Skips (ZeroAt (map (rectangle_of E.ends) first.now)) gaps.now start }
+    ensures stated { option_map (λ _. map (rectangle_of E.ends) row.new) result
+        ≡ sweep (rectangles E.SCALE) (rectangle_of E.ends f) (map (rectangle_of E.ends) first.now) (map (rectangle_of E.ends) row.old) }
+    ensures kept { Agree (ZeroAt (map (rectangle_of E.ends) first.now)) (map (rectangle_of E.ends) row.new) (map (rectangle_of E.ends) row.old) }
 {
     let mut i = start;
     while i < row.len() {
@@ -49,12 +50,12 @@ pub fn eliminate_listed<E: Enclosure>(
 ) -> Option<()>
     requires first_size { length first.now ≡ length row.old }
     requires gap_size { length gaps.now ≡ length row.old }
-    requires few { length row.old ≤ 4096 }
-    requires listed { Skips (ZeroAt (map (box_of E.ends) first.now)) gaps.now start }
-    ensures stated { option_map (λ _. map (box_of E.ends) row.new) result
-        ≡ later_row (boxes E.SCALE) (box_of E.ends pivot) (map (box_of E.ends) first.now) (box_of E.ends entry ∷ map (box_of E.ends) row.old) }
-    ensures kept { Agree (ZeroAt (map (box_of E.ends) first.now)) (map (box_of E.ends) row.new) (map (box_of E.ends) row.old) }
-    ensures stays { box_of E.ends entry ≡ nought_box → row.new ≡ row.old }
+    requires few { length row.old ≤ MAX_SIZE }
+    requires listed { Skips (ZeroAt (map (rectangle_of E.ends) first.now)) gaps.now start }
+    ensures stated { option_map (λ _. map (rectangle_of E.ends) row.new) result
+        ≡ later_row (rectangles E.SCALE) (rectangle_of E.ends pivot) (map (rectangle_of E.ends) first.now) (rectangle_of E.ends entry ∷ map (rectangle_of E.ends) row.old) }
+    ensures kept { Agree (ZeroAt (map (rectangle_of E.ends) first.now)) (map (rectangle_of E.ends) row.new) (map (rectangle_of E.ends) row.old) }
+    ensures stays { rectangle_of E.ends entry ≡ nought_rectangle → row.new ≡ row.old }
 {
     if is_zero(entry) {
         return Some(());

@@ -1,11 +1,12 @@
 // One step of the elimination on the right sides of a system, at the listed rows.
 ghost use Rattle.std.specs.Prelude.{◌≡◌, ◌+◌, ◌*◌, ◌≤◌, length, map};
 ghost use Rattle.std.specs.Option.{option_map};
-ghost use Rattle.complex_interval.specs.Rect.{box_of};
-ghost use Rattle.plain_elimination.specs.Matrix.{nought_box};
-ghost use Rattle.plain_elimination.specs.Rectangles.{boxes};
+ghost use Rattle.complex_interval.specs.Rect.{rectangle_of};
+ghost use Rattle.plain_elimination.specs.Matrix.{nought_rectangle};
+ghost use Rattle.plain_elimination.specs.Rectangles.{rectangles};
 ghost use Rattle.sparse_rows.specs.Listed.{Skips, ZeroAt};
 ghost use Rattle.sparse_rows.specs.Sides.{column_of, later_side, later_sides};
+ghost use Rattle.plain_elimination.specs.declared.limits.TheConstants.{MAX_SIZE};
 
 use crate::cells::{cell, set_cell};
 use complex_interval::{Enclosure, Rect};
@@ -18,8 +19,8 @@ fn later_side<E: Enclosure>(
     entry: Rect<E>,
     right: Rect<E>,
 ) -> Option<Rect<E>>
-    ensures { option_map (box_of E.ends) result
-        ≡ later_side (boxes E.SCALE) (box_of E.ends pivot) (box_of E.ends first_right) (box_of E.ends entry) (box_of E.ends right) }
+    ensures { option_map (rectangle_of E.ends) result
+        ≡ later_side (rectangles E.SCALE) (rectangle_of E.ends pivot) (rectangle_of E.ends first_right) (rectangle_of E.ends entry) (rectangle_of E.ends right) }
 {
     if is_zero(entry) {
         return Some(right);
@@ -40,13 +41,13 @@ pub fn eliminate_sides<E: Enclosure>(
     right: &mut [Rect<E>],
     column: usize,
 ) -> Option<()>
-    requires row_size { column + 1 + length right.old ≤ 4096 }
+    requires row_size { column + 1 + length right.old ≤ MAX_SIZE }
     requires rows { length later.now ≡ length right.old * (column + 1 + length right.old) }
     requires gap_size { length gaps.now ≡ length right.old }
-    requires rows_listed { Skips (λ r. ZeroAt (map (box_of E.ends) later.now) (r * (column + 1 + length right.old) + column)) gaps.now start }
-    ensures { option_map (λ _. map (box_of E.ends) right.new) result
-        ≡ later_sides (boxes E.SCALE) (box_of E.ends pivot) (box_of E.ends first_right)
-        (column_of nought_box (length right.old) (column + 1 + length right.old) column (map (box_of E.ends) later.now)) (map (box_of E.ends) right.old) }
+    requires rows_listed { Skips (λ r. ZeroAt (map (rectangle_of E.ends) later.now) (r * (column + 1 + length right.old) + column)) gaps.now start }
+    ensures { option_map (λ _. map (rectangle_of E.ends) right.new) result
+        ≡ later_sides (rectangles E.SCALE) (rectangle_of E.ends pivot) (rectangle_of E.ends first_right)
+        (column_of nought_rectangle (length right.old) (column + 1 + length right.old) column (map (rectangle_of E.ends) later.now)) (map (rectangle_of E.ends) right.old) }
 {
     let size = column + 1 + right.len();
     let mut r = start;

@@ -1,8 +1,8 @@
 use Rattle.std.proofs.Common.{◌≡◌, ◌+◌, ◌-◌, ◌*◌, Some, None, Ok, length, get_or, drop, map, refl, sym, ap, ◌∙◌, arith}
 use Rattle.std.proofs.lemmas.List.{length-drop}
-use Rattle.complex_interval.specs.Rect.{box_of}
+use Rattle.complex_interval.specs.Rect.{rectangle_of}
 use Rattle.plain_elimination.specs.Layout.{pivot_row}
-use Rattle.plain_elimination.specs.Rectangles.{boxes}
+use Rattle.plain_elimination.specs.Rectangles.{rectangles}
 use Rattle.plain_elimination.proofs.Left.{first_size}
 use Rattle.plain_elimination.proofs.Systems.{unknown_is, unknown_set}
 use Rattle.sparse_rows.specs.Listed.{ZeroAt}
@@ -11,7 +11,7 @@ use Rattle.sparse_rows.proofs.back.solve_row.Goals as goal
 
 pub unknown_of_line-unknown-requires : goal.unknown_of_line-unknown-requires
 unknown_of_line-unknown-requires g c =
-    let box = box_of g.E.Enclosure.ends in
+    let rectangle = rectangle_of g.E.Enclosure.ends in
     let size = c.args.size in
     let k = c.args.row in
     let gaps = c.args.gaps.now in
@@ -28,19 +28,19 @@ unknown_of_line-unknown-requires g c =
       gap_size = omega arith;
       few = omega arith;
       diagonal = omega (arith, head, c.requires.fill.diagonal k l);
-      listed = rw eg (listed_behind (ZeroAt (map box (drop 1 line))) gaps size k c.requires.fill l c.requires.gap_size
-          (column_zero box gaps size k cells c.cells_up_to-done.result.now (drop ((k + 1) * size) cells) line c.requires.fill l c.requires.zeros c.cells_up_to-done.ensures refl c.cells_from-line.ensures));
+      listed = rw eg (listed_behind (ZeroAt (map rectangle (drop 1 line))) gaps size k c.requires.fill l c.requires.gap_size
+          (column_zero rectangle gaps size k cells c.cells_up_to-done.result.now (drop ((k + 1) * size) cells) line c.requires.fill l c.requires.zeros c.cells_up_to-done.ensures refl c.cells_from-line.ensures));
     }
 
 pub returns-in-Some-clause-unknown : goal.returns-in-Some-clause-unknown
 returns-in-Some-clause-unknown g c =
-    let box = box_of g.E.Enclosure.ends in
-    let known = unknown_is (boxes g.E.Enclosure.SCALE) box c.args.cells.now _ c.cells_from-line.result.now c.args.right.now c.cells_from.result.now c.args.size c.args.row c.index-right-row.result (Some (box c.in-Some.x)) (omega arith) c.cells_up_to-done.ensures c.cells_from-line.ensures c.cells_from.ensures c.index-right-row.is c.in-Some.ensures in
-    let set = unknown_set (boxes g.E.Enclosure.SCALE) box c.args.right.now c.args.row c.in-Some.x (omega arith) in
+    let rectangle = rectangle_of g.E.Enclosure.ends in
+    let known = unknown_is (rectangles g.E.Enclosure.SCALE) rectangle c.args.cells.now _ c.cells_from-line.result.now c.args.right.now c.cells_from.result.now c.args.size c.args.row c.index-right-row.result (Some (rectangle c.in-Some.x)) (omega arith) c.cells_up_to-done.ensures c.cells_from-line.ensures c.cells_from.ensures c.index-right-row.is c.in-Some.ensures in
+    let set = unknown_set (rectangles g.E.Enclosure.SCALE) rectangle c.args.right.now c.args.row c.in-Some.x (omega arith) in
     rw c.set_cell.ensures (ap Ok set ∙ sym known)
 
 pub returns-in-None-clause-unknown : goal.returns-in-None-clause-unknown
 returns-in-None-clause-unknown g c =
-    let box = box_of g.E.Enclosure.ends in
-    let known = unknown_is (boxes g.E.Enclosure.SCALE) box c.args.cells.now _ c.cells_from-line.result.now c.args.right.now c.cells_from.result.now c.args.size c.args.row c.index-right-row.result None (omega arith) c.cells_up_to-done.ensures c.cells_from-line.ensures c.cells_from.ensures c.index-right-row.is c.in-None.ensures in
+    let rectangle = rectangle_of g.E.Enclosure.ends in
+    let known = unknown_is (rectangles g.E.Enclosure.SCALE) rectangle c.args.cells.now _ c.cells_from-line.result.now c.args.right.now c.cells_from.result.now c.args.size c.args.row c.index-right-row.result None (omega arith) c.cells_up_to-done.ensures c.cells_from-line.ensures c.cells_from.ensures c.index-right-row.is c.in-None.ensures in
     sym known

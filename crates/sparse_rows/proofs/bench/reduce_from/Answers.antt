@@ -1,7 +1,7 @@
 use Rattle.std.proofs.Common.{sym, ap, ◌∙◌}
 use Rattle.plain_elimination.specs.Layout.{rows_of}
 use Rattle.plain_elimination.specs.Elimination.{reduce}
-use Rattle.plain_elimination.specs.Rectangles.{boxes}
+use Rattle.plain_elimination.specs.Rectangles.{rectangles}
 use Rattle.sparse_rows.proofs.bench.reduce_from.Goals as goal
 
 pub load_listed-requires-clause-outside : goal.load_listed-requires-clause-outside
@@ -11,4 +11,4 @@ pub reduce_listed-requires-clause-zeros : goal.reduce_listed-requires-clause-zer
 reduce_listed-requires-clause-zeros g c = rw c.load_listed.ensures c.requires.outside
 
 pub returns-clause-stated : goal.returns-clause-stated
-returns-clause-stated g c = c.reduce_listed.ensures.stated ∙ ap (λ xs. reduce (boxes g.E.Enclosure.SCALE) (rows_of c.args.size c.args.size xs)) c.load_listed.ensures
+returns-clause-stated g c = c.reduce_listed.ensures.stated ∙ ap (λ xs. reduce (rectangles g.E.Enclosure.SCALE) (rows_of c.args.size c.args.size xs)) c.load_listed.ensures

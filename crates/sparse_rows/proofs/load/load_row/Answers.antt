@@ -1,5 +1,5 @@
 use Rattle.std.proofs.Common.{ℕ, ◌≤◌, ◌<◌, ◌+◌, ◌*◌, map, get_or, arith}
-use Rattle.complex_interval.specs.Rect.{box_of}
+use Rattle.complex_interval.specs.Rect.{rectangle_of}
 use Rattle.sparse_rows.specs.Listed.{Out, SameAt, CloserTo}
 use Rattle.sparse_rows.proofs.Loads.{row_more, column_more}
 use Rattle.sparse_rows.proofs.load.load_row.Goals as goal
@@ -14,11 +14,11 @@ loop-j-init g c =
 
 pub loop-j-preserved : goal.loop-j-preserved
 loop-j-preserved g c =
-    let box = box_of g.E.Enclosure.ends in
+    let rectangle = rectangle_of g.E.Enclosure.ends in
     let gaps = c.args.gaps.now in
-    let source = map box c.args.source.now in
-    let mid = map box c.loop-j.cells in
-    let new = map box c.load_cell-in-loop-j.new.cells in
+    let source = map rectangle c.args.source.now in
+    let mid = map rectangle c.loop-j.cells in
+    let new = map rectangle c.load_cell-in-loop-j.new.cells in
     let k = c.args.k in
     let j = c.loop-j.j in
     let size = c.args.size in

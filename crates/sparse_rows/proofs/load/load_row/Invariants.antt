@@ -1,17 +1,17 @@
 use Rattle.std.proofs.Common.{ℕ, ◌≤◌, ◌<◌, ◌+◌, ◌*◌, ◌-◌, map, get_or}
-use Rattle.complex_interval.specs.Rect.{box_of}
+use Rattle.complex_interval.specs.Rect.{rectangle_of}
 use Rattle.sparse_rows.specs.Listed.{SameAt, CloserTo}
 use Rattle.sparse_rows.proofs.load.load_row.Given as goal
 
 abbrev pub invariant-loop-j : goal.invariant-loop-j
 invariant-loop-j g l =
-    let box = box_of g.E.Enclosure.ends in
+    let rectangle = rectangle_of g.E.Enclosure.ends in
     (l.k ≤ l.j)
     × (l.j ≤ l.size)
     × (l.j < l.size → 1 ≤ get_or l.gaps (l.k * l.size + l.j) 0)
-    × CloserTo (map box l.source) (map box l.initial.cells) (map box l.cells)
-    × ((i : ℕ) → l.k ≤ i → i < l.j → SameAt (map box l.source) (map box l.cells) (l.k * l.size + i))
-    × ((i : ℕ) → l.k ≤ i → i < l.j → SameAt (map box l.source) (map box l.cells) (i * l.size + l.k))
+    × CloserTo (map rectangle l.source) (map rectangle l.initial.cells) (map rectangle l.cells)
+    × ((i : ℕ) → l.k ≤ i → i < l.j → SameAt (map rectangle l.source) (map rectangle l.cells) (l.k * l.size + i))
+    × ((i : ℕ) → l.k ≤ i → i < l.j → SameAt (map rectangle l.source) (map rectangle l.cells) (i * l.size + l.k))
 
 abbrev pub decreases-loop-j : goal.decreases-loop-j
 decreases-loop-j g l = l.size - l.j

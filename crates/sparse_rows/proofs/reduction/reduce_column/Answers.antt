@@ -1,9 +1,9 @@
 use Rattle.std.proofs.Common.{◌≡◌, refl, ◌+◌, ◌-◌, ◌*◌, ◌++◌, length, drop, get_or, map, sym, ap, subst, ◌∙◌, arith}
 use Rattle.std.proofs.lemmas.List.{length-map, length-take-le, map-append, drop_at}
-use Rattle.complex_interval.specs.Rect.{box_of}
+use Rattle.complex_interval.specs.Rect.{rectangle_of}
 use Rattle.plain_elimination.specs.Layout.{pivot_row}
-use Rattle.plain_elimination.specs.Matrix.{nought_box}
-use Rattle.plain_elimination.specs.Rectangles.{boxes}
+use Rattle.plain_elimination.specs.Matrix.{nought_rectangle}
+use Rattle.plain_elimination.specs.Rectangles.{rectangles}
 use Rattle.plain_elimination.proofs.Left.{cells_behind, first_size, column_done, later_is}
 use Rattle.sparse_rows.specs.Listed.{Skips, ZeroAt}
 use Rattle.sparse_rows.specs.Sides.{column_of}
@@ -12,7 +12,7 @@ use Rattle.sparse_rows.proofs.reduction.reduce_column.Goals as goal
 
 pub reduce_by-requires : goal.reduce_by-requires
 reduce_by-requires g c =
-    let box = box_of g.E.Enclosure.ends in
+    let rectangle = rectangle_of g.E.Enclosure.ends in
     let size = c.args.size in
     let k = c.args.column in
     let gaps = c.args.gaps.now in
@@ -28,8 +28,8 @@ reduce_by-requires g c =
     let eg : c.gaps_from-line_gaps.result.now ≡ pivot_row size k gaps = c.gaps_from-line_gaps.ensures ∙ ap (drop (k * size + k)) c.gaps_up_to-done_gaps.ensures in
     let width_gaps : k + length c.gaps_from-line_gaps.result.now ≡ size = first_size k size gaps _ _ l c.requires.gap_size c.gaps_up_to-done_gaps.ensures c.gaps_from-line_gaps.ensures in
     let head : get_or c.gaps_from-line_gaps.result.now 0 0 ≡ get_or gaps (k * size + k) 0 = ap (λ xs. get_or xs 0 0) eg ∙ head_at gaps size k 0 l in
-    let rows = listed_behind (λ r. ZeroAt (map box later) (r * size + k)) gaps size k c.requires.fill l c.requires.gap_size
-    (row_zero box gaps size k cells c.split_at_mut-done.result.0.now later line c.requires.fill l c.requires.zeros parts.front parts.back c.cells_from-line.ensures) in
+    let rows = listed_behind (λ r. ZeroAt (map rectangle later) (r * size + k)) gaps size k c.requires.fill l c.requires.gap_size
+    (row_zero rectangle gaps size k cells c.split_at_mut-done.result.0.now later line c.requires.fill l c.requires.zeros parts.front parts.back c.cells_from-line.ensures) in
     record {
       pivot = omega arith;
       row_size = omega arith;
@@ -37,8 +37,8 @@ reduce_by-requires g c =
       gap_size = omega arith;
       diagonal = omega (arith, head, c.requires.fill.diagonal k l);
       columns_listed = rw eg (listed_behind _ gaps size k c.requires.fill l c.requires.gap_size
-          (column_zero box gaps size k cells c.split_at_mut-done.result.0.now later line c.requires.fill l c.requires.zeros parts.front parts.back c.cells_from-line.ensures));
-      rows_listed = rw eg (subst (λ w. Skips (λ r. ZeroAt (map box later) (r * w + k)) (drop 1 (pivot_row size k gaps)) (get_or (pivot_row size k gaps) 0 0 - 1)) (sym width) rows);
+          (column_zero rectangle gaps size k cells c.split_at_mut-done.result.0.now later line c.requires.fill l c.requires.zeros parts.front parts.back c.cells_from-line.ensures));
+      rows_listed = rw eg (subst (λ w. Skips (λ r. ZeroAt (map rectangle later) (r * w + k)) (drop 1 (pivot_row size k gaps)) (get_or (pivot_row size k gaps) 0 0 - 1)) (sym width) rows);
     }
 
 pub returns-clause-stated : goal.returns-clause-stated
@@ -49,11 +49,11 @@ returns-clause-stated g c =
     let line = c.cells_from-line.result.now in
     let width : k + length line ≡ size = first_size k size c.args.cells.now _ _ c.requires.column_in c.requires.square parts.front c.cells_from-line.ensures in
     let count : length line - 1 ≡ size - 1 - k = omega arith in
-    column_done (boxes g.E.Enclosure.SCALE) (box_of g.E.Enclosure.ends) c.reduce_by.result k size _ c.args.cells.now _ _ c.reduce_by.new.later _ c.requires.column_in c.requires.square width parts.front parts.back c.cells_from-line.ensures (rw count at c.reduce_by.ensures.stated)
+    column_done (rectangles g.E.Enclosure.SCALE) (rectangle_of g.E.Enclosure.ends) c.reduce_by.result k size _ c.args.cells.now _ _ c.reduce_by.new.later _ c.requires.column_in c.requires.square width parts.front parts.back c.cells_from-line.ensures (rw count at c.reduce_by.ensures.stated)
 
 pub returns-clause-zeros : goal.returns-clause-zeros
 returns-clause-zeros g c =
-    let box = box_of g.E.Enclosure.ends in
+    let rectangle = rectangle_of g.E.Enclosure.ends in
     let size = c.args.size in
     let k = c.args.column in
     let cells = c.args.cells.now in
@@ -62,12 +62,12 @@ returns-clause-zeros g c =
     let line = c.cells_from-line.result.now in
     let width : k + length line ≡ size = first_size k size cells _ _ l c.requires.square parts.front c.cells_from-line.ensures in
     let count : length line - 1 ≡ size - 1 - k = omega arith in
-    column_zeros box c.args.gaps.now size k cells c.split_at_mut-done.result.0.now c.split_at_mut-done.result.1.now line c.requires.fill l c.requires.zeros parts.front parts.back c.cells_from-line.ensures c.reduce_by.new.later c.requires.square
+    column_zeros rectangle c.args.gaps.now size k cells c.split_at_mut-done.result.0.now c.split_at_mut-done.result.1.now line c.requires.fill l c.requires.zeros parts.front parts.back c.cells_from-line.ensures c.reduce_by.new.later c.requires.square
     (resized _ _ _ _ _ _ _ _ _ refl count width c.reduce_by.ensures.zeros)
 
 pub returns-clause-entries : goal.returns-clause-entries
 returns-clause-entries g c =
-    let box = box_of g.E.Enclosure.ends in
+    let rectangle = rectangle_of g.E.Enclosure.ends in
     let size = c.args.size in
     let k = c.args.column in
     let cells = c.args.cells.now in
@@ -78,7 +78,7 @@ returns-clause-entries g c =
     let width : k + length line ≡ size = first_size k size cells _ _ c.requires.column_in c.requires.square parts.front c.cells_from-line.ensures in
     let count : length line - 1 ≡ size - 1 - k = omega arith in
     let fits = cells_behind k size c.requires.column_in in
-    let front : length (map box done) ≡ (k + 1) * size = length-map done box ∙ ap length parts.front ∙ length-take-le ((k + 1) * size) cells (omega arith) in
-    let behind : drop ((k + 1) * size) (map box (done ++ new)) ≡ map box new = ap (drop ((k + 1) * size)) (map-append box done new) ∙ drop_at (map box done) (map box new) ((k + 1) * size) front in
-    let entries = column_of nought_box (size - 1 - k) size k in
-    ap entries behind ∙ rw (count, width) at c.reduce_by.ensures.entries ∙ ap entries (later_is box k size cells _ parts.back)
+    let front : length (map rectangle done) ≡ (k + 1) * size = length-map done rectangle ∙ ap length parts.front ∙ length-take-le ((k + 1) * size) cells (omega arith) in
+    let behind : drop ((k + 1) * size) (map rectangle (done ++ new)) ≡ map rectangle new = ap (drop ((k + 1) * size)) (map-append rectangle done new) ∙ drop_at (map rectangle done) (map rectangle new) ((k + 1) * size) front in
+    let entries = column_of nought_rectangle (size - 1 - k) size k in
+    ap entries behind ∙ rw (count, width) at c.reduce_by.ensures.entries ∙ ap entries (later_is rectangle k size cells _ parts.back)
