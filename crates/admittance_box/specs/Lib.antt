@@ -8,6 +8,7 @@ pub mod Held
 pub mod HeldMatrix
 pub mod Intervals
 pub mod Orders
+pub mod Pattern
 pub mod Places
 pub mod Series
 pub mod Steps

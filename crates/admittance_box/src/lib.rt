@@ -13,6 +13,7 @@ mod orders;
 mod series;
 mod shunt;
 mod skin;
+mod spots;
 mod taps;
 
 pub use assembly::Assembly;
@@ -23,3 +24,4 @@ pub use orders::order_range;
 pub use series::{SeriesParameters, SeriesValues, series_admittance};
 pub use shunt::shunt_admittance;
 pub use skin::resistance;
+pub use spots::{pattern, zero_outside};

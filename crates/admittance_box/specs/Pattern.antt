@@ -1,0 +1,43 @@
+-- Which entries of a network's matrix may be other than zero.
+use Rattle.std.specs.Prelude.{ℕ, List, [], ◌∷◌, ◌++◌, length, Option, Some, None, Ok, ◌≡◌}
+use Rattle.complex_interval.specs.Rectangles.{Rectangle}
+use Rattle.network_theory.specs.Branch.{Tap, Branch}
+use Rattle.network_theory.specs.Network.{Network}
+use Rattle.plain_elimination.specs.Pattern.{IsZeroOutside}
+use Rattle.plain_elimination.specs.declared.pattern.Spot.{Spot}
+use Rattle.admittance_box.specs.BoxMatrix.{box_matrix}
+use Rattle.admittance_box.specs.Places.{place_of, IsNodeOrdering}
+
+-- the spot in this row and this column, if there are both
+abbrev pub spot_at : Option ℕ → Option ℕ → List Spot
+spot_at (Some row) (Some column) = record { row = row; column = column } ∷ []
+spot_at (Some row) None = []
+spot_at None column = []
+
+-- the spots of this row, if it is one, with each of these taps
+abbrev pub spots_with : List ℕ → Option ℕ → List Tap → List Spot
+spots_with ordering row [] = []
+spots_with ordering row (u ∷ us) = spot_at row (place_of ordering u.node) ++ spots_with ordering row us
+
+-- the spots of each of these taps with each of those
+abbrev pub tap_spots : List ℕ → List Tap → List Tap → List Spot
+tap_spots ordering [] us = []
+tap_spots ordering (t ∷ ts) us = spots_with ordering (place_of ordering t.node) us ++ tap_spots ordering ts us
+
+-- for each branch and each two of its taps, in order, the entry in the row of the one and the column of the other
+abbrev pub branch_spots : List ℕ → List Branch → List Spot
+branch_spots ordering [] = []
+branch_spots ordering (b ∷ bs) = tap_spots ordering b.taps b.taps ++ branch_spots ordering bs
+
+-- the matrix of a box is exact zero outside these spots, for a network and for each pair from it on
+abbrev pub ZeroOutside : Type 0
+ZeroOutside =
+    (s : ℕ) (low high : Network) (ordering : List ℕ) (lo hi : ℕ) (rows : List (List Rectangle)) → box_matrix s low high ordering lo hi ≡ Ok rows
+    → IsZeroOutside (branch_spots ordering low.branches) (record { size = length ordering; rows = rows })
+
+-- so many live nodes, and the spots of the branches in their ordering
+pub record IsPatternOf (network : Network) (driven size : ℕ) (places : List Spot) : Type 0 where
+  pub ordering : List ℕ
+  pub ordered : IsNodeOrdering network driven ordering
+  pub count : size ≡ length ordering
+  pub spots : places ≡ branch_spots ordering network.branches

@@ -1,0 +1,84 @@
+// Which entries of a network's matrix may be other than zero.
+ghost use Rattle.std.specs.Prelude.{◌≡◌, ◌≤◌, ◌++◌, IfOk, length, map};
+ghost use Rattle.network_theory.specs.Live.{Live};
+ghost use Rattle.net_branch.specs.Exact.{exact_branch, exact_network, exact_tap};
+ghost use Rattle.net_branch.specs.Whole.{IsWholeNetwork};
+ghost use Rattle.admittance_box.specs.Pattern.{ZeroOutside, spots_with, tap_spots, branch_spots, IsPatternOf};
+ghost use Rattle.plain_elimination.specs.declared.limits.TheConstants.{MAX_SIZE};
+
+use crate::node_ordering::order_nodes;
+use crate::taps::find_place;
+use net_branch::{Branch, Network, NodeId, Tap, live};
+use plain_elimination::{Pattern, Spot};
+use std::alloc::{AllocError, Global};
+
+// Adds the spots of a row, if it is one, with each of `taps`.
+fn push_spots(
+    spots: &mut Vec<Spot>,
+    ordering: &[u32],
+    row: Option<u32>,
+    taps: &[Tap],
+) -> Result<(), AllocError>
+    requires { length ordering.now ≤ MAX_SIZE }
+    ensures { IfOk result (λ _. spots.new.items ≡ spots.old.items ++ spots_with ordering.now row (map exact_tap taps.now)) }
+{
+    for tap in taps {
+        let column = find_place(ordering, tap.node.number);
+        if let (Some(row), Some(column)) = (row, column) {
+            spots.push(Spot { row, column })?;
+        }
+    }
+    Ok(())
+}
+
+// Adds the spots of each of `taps` with each of `others`.
+fn push_tap_spots(
+    spots: &mut Vec<Spot>,
+    ordering: &[u32],
+    taps: &[Tap],
+    others: &[Tap],
+) -> Result<(), AllocError>
+    requires { length ordering.now ≤ MAX_SIZE }
+    ensures { IfOk result (λ _. spots.new.items ≡ spots.old.items ++ tap_spots ordering.now (map exact_tap taps.now) (map exact_tap others.now)) }
+{
+    for tap in taps {
+        let row = find_place(ordering, tap.node.number);
+        push_spots(spots, ordering, row, others)?;
+    }
+    Ok(())
+}
+
+// The spots of each branch.
+fn spots_of(alloc: Global, ordering: &[u32], branches: &[Branch]) -> Result<Vec<Spot>, AllocError>
+    requires { length ordering.now ≤ MAX_SIZE }
+    ensures { IfOk result (λ spots. spots.items ≡ branch_spots ordering.now (map exact_branch branches.now)) }
+{
+    let mut spots = Vec::new(alloc);
+    for branch in branches {
+        let taps = branch.taps.as_slice();
+        push_tap_spots(&mut spots, ordering, taps, taps)?;
+    }
+    Ok(spots)
+}
+
+/// The pattern of the matrix of a network that is driven at a live node: the number of live nodes, and for each branch of live
+/// nodes and each two of its taps the entry in the row of the one's node and the column of the other's. Each matrix that an
+/// assembly of the network, or of a pair from it on, fills is exact zero elsewhere.
+pub fn pattern(alloc: Global, network: &Network, driven: NodeId) -> Result<Pattern, AllocError>
+    requires whole { IsWholeNetwork network.now }
+    requires live { Live (exact_network network.now) driven.number }
+    ensures { IfOk result (λ p. IsPatternOf (exact_network network.now) driven.number p.size p.places.items) }
+{
+    let marks = live(alloc, network)?;
+    let ordering = order_nodes(alloc, network, marks.as_slice(), driven.number)?;
+    let places = spots_of(alloc, ordering.as_slice(), network.branches.as_slice())?;
+    Ok(Pattern {
+        size: ordering.len() as u32,
+        places,
+    })
+}
+
+/// The matrix of a box is exact zero outside the pattern's spots.
+pub fn zero_outside()
+    ensures law { ZeroOutside }
+{}
