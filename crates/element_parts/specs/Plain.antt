@@ -9,10 +9,6 @@ IsPlainLaw (Series r k m x xc) = ¬ ((r.num ≡ pos 0) × (x.num ≡ pos 0) × (
 IsPlainLaw (Shunt b) = ¬ (b.num ≡ pos 0)
 IsPlainLaw (Coupled3 place c) = ⊥
 
--- such laws
-abbrev pub ArePlainLaws : List Law → Type 0
-ArePlainLaws laws = AllByRecursion IsPlainLaw laws
-
 -- an uncoupled branch of such a law, whose taps are at the first nodes, so many of them
 pub record IsPlainBranch (nodes : ℕ) (b : Branch) : Type 0 where
   pub taps : AllByRecursion (λ t. t.node < nodes) b.taps

@@ -15,10 +15,6 @@ IsSmallLaw (Series r k m x xc) = IsSmall r × IsSmall k × IsSmall m × IsSmall 
 IsSmallLaw (Shunt b) = IsSmall b
 IsSmallLaw (Coupled3 place c) = IsSmall c.self_r × IsSmall c.self_x × IsSmall c.mutual_r × IsSmall c.x_ab × IsSmall c.x_bc × IsSmall c.x_ca × IsSmall c.k × IsSmall c.m
 
--- laws with such values
-abbrev pub AreSmallLaws : List Law → Type 0
-AreSmallLaws laws = AllByRecursion IsSmallLaw laws
-
 -- branches whose laws have such values
 abbrev pub HaveSmallLaws : List Branch → Type 0
 HaveSmallLaws branches = AllByRecursion (λ b. IsSmallLaw b.law) branches
