@@ -7,12 +7,12 @@ ghost use Rattle.net_branch.specs.Whole.{IsWholeNetwork};
 ghost use Rattle.admittance_box.specs.HeldMatrix.{HasNoGroup};
 
 use crate::fixtures::{
-    ONE, TWO, ZERO, bank, coil, fill, live_node, network_of, push, tap, tie, two_buses,
+    ONE, TWO, ZERO, add, bank, coil, expect, fill, live_node, network_of, push, tap, tie, two_buses,
 };
 use admittance_box::{Assembly, Fill};
-use complex_interval::{Enclosure, Rect, Span};
+use complex_interval::{Enclosure, Span};
 use exact_fraction::Fraction;
-use net_branch::{Branch, Law, Network, NodeId, Tap, add_node, live, new_network};
+use net_branch::{Branch, Law, Network, NodeId, Tap, new_network};
 use plain_elimination::{Failure, Matrix, reduce_to_last};
 use sqlite_items::Items;
 use std::alloc::Global;
@@ -21,12 +21,15 @@ use std::test::Fail;
 
 const UNIT: i64 = 1_099_511_627_776;
 
+const HALF: i64 = UNIT / 2;
+
+const QUARTER: i64 = UNIT / 4;
+
+// Three times 2^20, less 8.
+const THREE_BANKS: i64 = 3_145_720 * UNIT;
+
 // The assembly of a network that is driven at a node, which must be live.
-fn driven_at<E: Enclosure>(
-    alloc: Global,
-    network: &Network,
-    number: u32,
-) -> Result<Assembly<E>, Fail>
+fn driven_at(alloc: Global, network: &Network, number: u32) -> Result<Assembly<Span<40>>, Fail>
     requires whole { IsWholeNetwork network.now }
     requires no_group { HasNoGroup (exact_network network.now) }
 {
@@ -34,160 +37,119 @@ fn driven_at<E: Enclosure>(
     Ok(Assembly::new(alloc, network, node)?)
 }
 
-// The matrix over the orders from lo to hi.
-fn filled<E: Enclosure>(
+// The matrix over the orders from lo to hi, or the first branch with no value there.
+fn filled(
     alloc: Global,
-    assembly: &mut Assembly<E>,
+    assembly: &mut Assembly<Span<40>>,
     lo: u32,
     hi: u32,
-) -> Result<(Fill, Matrix<E>), Fail>
-    requires lowest { 100000 ≤ lo }
-    requires ordered { lo ≤ hi }
-    requires highest { hi ≤ 100000000 }
-{
+) -> Result<Result<Matrix<Span<40>>, u32>, Fail> {
+    if lo < 100_000 || hi < lo || 100_000_000 < hi {
+        return Err("not an order".into());
+    }
     let mut matrix = Matrix::new(alloc, assembly.size())?;
-    let fill = assembly.fill(lo, hi, &mut matrix);
-    Ok((fill, matrix))
-}
-
-// An entry, if there is one.
-fn entry<E: Enclosure>(matrix: &Matrix<E>, row: u32, column: u32) -> Result<Rect<E>, Fail> {
-    if row < matrix.size() && column < matrix.size() {
-        Ok(matrix.get(row, column))
-    } else {
-        Err("no entry".into())
+    match assembly.fill(lo, hi, &mut matrix) {
+        Fill::Filled => Ok(Ok(matrix)),
+        Fill::OutOfRange(branch) => Ok(Err(branch)),
     }
 }
 
-// How the reduction of a matrix ends.
-fn reduced<E: Enclosure>(matrix: &mut Matrix<E>) -> Result<Result<Rect<E>, Failure>, Fail> {
-    if 1 <= matrix.size() {
-        Ok(reduce_to_last(matrix))
-    } else {
-        Err("no row".into())
-    }
-}
-
-// The matrix at an order, which has to be formed, of a network that is driven at a node.
-fn matrix_at(
-    rt: &impl Abort,
+// The same of a network that is driven at a node.
+fn matrix_of(
     alloc: Global,
     network: &Network,
     number: u32,
-    order: u32,
-) -> Result<Matrix<Span<40>>, Fail>
+    lo: u32,
+    hi: u32,
+) -> Result<Result<Matrix<Span<40>>, u32>, Fail>
     requires whole { IsWholeNetwork network.now }
     requires no_group { HasNoGroup (exact_network network.now) }
-    requires order { (100000 ≤ order) × (order ≤ 100000000) }
 {
     let mut assembly = driven_at(alloc, network, number)?;
-    let (fill, matrix) = filled(alloc, &mut assembly, order, order)?;
-    assert!(rt; matches!(fill, Fill::Filled));
-    Ok(matrix)
+    filled(alloc, &mut assembly, lo, hi)
 }
 
-// The raw ends of the imaginary part of an entry.
-fn assert_imaginary(
+// The raw ends of the imaginary part of an entry whose real part is zero.
+fn imaginary(matrix: &Matrix<Span<40>>, row: u32, column: u32) -> Option<(i64, i64)> {
+    if matrix.size() <= row || matrix.size() <= column {
+        return None;
+    }
+    let entry = matrix.get(row, column);
+    if entry.re.low() == 0 && entry.re.high() == 0 {
+        Some((entry.im.low(), entry.im.high()))
+    } else {
+        None
+    }
+}
+
+// A matrix of this size with these entries, whose real parts are zero.
+fn expect_entries(
     rt: &impl Abort,
-    matrix: &Matrix<Span<40>>,
-    row: u32,
-    column: u32,
-    ends: (i64, i64),
+    found: Result<Matrix<Span<40>>, u32>,
+    size: u32,
+    entries: &[(u32, u32, (i64, i64))],
 ) -> Result<(), Fail> {
-    let im = entry(matrix, row, column)?.im;
-    assert_eq!(rt; (im.low(), im.high()), ends, "{row}, {column}");
+    let matrix = found?;
+    expect(rt, matrix.size(), size, "the size");
+    for entry in entries {
+        let (row, column, ends) = *entry;
+        let found = imaginary(&matrix, row, column);
+        expect(
+            rt,
+            (row, column, found),
+            (row, column, Some(ends)),
+            "an entry",
+        );
+    }
     Ok(())
 }
 
-// An entry whose real part is zero.
-fn assert_no_real_part(
-    rt: &impl Abort,
-    matrix: &Matrix<Span<40>>,
-    row: u32,
-    column: u32,
-) -> Result<(), Fail> {
-    let re = entry(matrix, row, column)?.re;
-    assert_eq!(rt; (re.low(), re.high()), (0, 0), "{row}, {column}");
-    Ok(())
-}
-
-// Where a node stands.
-fn assert_position(rt: &impl Abort, assembly: &Assembly<Span<40>>, number: u32, place: u32) {
-    assert_eq!(rt;
-        assembly.position(NodeId { number }),
-        Some(place),
-        "node {number}"
-    );
-}
-
-// The first branch with no value at an order.
-fn assert_out_of_range(
-    rt: &impl Abort,
-    alloc: Global,
-    assembly: &mut Assembly<Span<40>>,
-    order: u32,
-    branch: u32,
-) -> Result<(), Fail>
-    requires order { (100000 ≤ order) × (order ≤ 100000000) }
-{
-    let (fill, _matrix) = filled(alloc, assembly, order, order)?;
-    assert!(rt;
-        matches!(fill, Fill::OutOfRange(i) if i == branch),
-        "at {order}"
-    );
-    Ok(())
+// The step at which the reduction of a matrix meets a pivot that holds zero.
+fn pivot_that_holds_zero(matrix: Matrix<Span<40>>) -> Option<u32> {
+    let mut matrix = matrix;
+    if matrix.size() < 1 {
+        return None;
+    }
+    match reduce_to_last(&mut matrix) {
+        Err(Failure::PivotHoldsZero(step)) => Some(step),
+        _ => None,
+    }
 }
 
 #[test]
 fn resonance_at_a_bus_that_is_not_driven(rt: HostRuntime) -> Result<(), Fail> {
-    let alloc = rt.alloc();
-    let network = two_buses(alloc)?;
-    let mut assembly: Assembly<Span<40>> = driven_at(alloc, &network, 1)?;
-    let (fill, mut matrix) = filled(alloc, &mut assembly, 4_990_000, 5_010_000)?;
-    assert!(rt; matches!(fill, Fill::Filled));
-    assert!(rt; matches!(reduced(&mut matrix)?, Err(Failure::PivotHoldsZero(1))));
+    let network = two_buses(rt.alloc())?;
+    let matrix = matrix_of(rt.alloc(), &network, 1, 4_990_000, 5_010_000)?;
+    expect(&rt, pivot_that_holds_zero(matrix?), Some(1), "the step");
     Ok(())
 }
 
+// -1/4 + 4·0.04 at node 0, which comes first; 1/4 between, and -1/2 at node 1.
 #[test]
 fn entries_at_order_four(rt: HostRuntime) -> Result<(), Fail> {
     let network = two_buses(rt.alloc())?;
-    let matrix = matrix_at(&rt, rt.alloc(), &network, 1, 4_000_000)?;
-    assert_eq!(rt; matrix.size(), 2);
-    // -1/4 + 4·0.04 at node 0, which comes first
-    assert_no_real_part(&rt, &matrix, 0, 0)?;
-    assert_imaginary(&rt, &matrix, 0, 0, (-98_956_046_500, -98_956_046_496))?;
-    // 1/4 between, and -1/2 at node 1
-    let quarter = (UNIT / 4, UNIT / 4);
-    assert_imaginary(&rt, &matrix, 0, 1, quarter)?;
-    assert_imaginary(&rt, &matrix, 1, 0, quarter)?;
-    assert_imaginary(&rt, &matrix, 1, 1, (-UNIT / 2, -UNIT / 2))
+    let matrix = matrix_of(rt.alloc(), &network, 1, 4_000_000, 4_000_000)?;
+    let entries = [
+        (0, 0, (-98_956_046_500, -98_956_046_496)),
+        (0, 1, (QUARTER, QUARTER)),
+        (1, 0, (QUARTER, QUARTER)),
+        (1, 1, (-HALF, -HALF)),
+    ];
+    expect_entries(&rt, matrix, 2, entries.as_slice())
 }
 
 #[test]
 fn a_ratio_counts_once_and_twice(rt: HostRuntime) -> Result<(), Fail> {
     let parts = [tie(0, TWO, 1), coil(1, ZERO)];
     let network = network_of(rt.alloc(), 2, parts.as_slice())?;
-    let matrix = matrix_at(&rt, rt.alloc(), &network, 1, 4_000_000)?;
-    let half = UNIT / 2;
-    assert_imaginary(&rt, &matrix, 0, 0, (-UNIT, -UNIT))?;
-    assert_imaginary(&rt, &matrix, 0, 1, (half, half))?;
-    assert_imaginary(&rt, &matrix, 1, 0, (half, half))?;
-    assert_imaginary(&rt, &matrix, 1, 1, (-half, -half))
-}
-
-// Adds an inner node.
-#[tactic(auto, using(net_branch::proofs::Wholes::whole_growing))]
-fn add(network: &mut Network) -> Result<(), Fail>
-    requires whole { IsWholeNetwork network.old }
-    requires no_group { HasNoGroup (exact_network network.old) }
-    ensures whole { IsWholeNetwork network.new }
-    ensures no_group { HasNoGroup (exact_network network.new) }
-{
-    match add_node(network) {
-        Ok(_) => Ok(()),
-        Err(_) => Err("too many".into()),
-    }
+    let matrix = matrix_of(rt.alloc(), &network, 1, 4_000_000, 4_000_000)?;
+    let entries = [
+        (0, 0, (-UNIT, -UNIT)),
+        (0, 1, (HALF, HALF)),
+        (1, 0, (HALF, HALF)),
+        (1, 1, (-HALF, -HALF)),
+    ];
+    expect_entries(&rt, matrix, 2, entries.as_slice())
 }
 
 // Three buses and two inner nodes, each with a coil to ground.
@@ -209,23 +171,36 @@ fn with_inner_nodes(alloc: Global) -> Result<Network, Fail>
     Ok(network)
 }
 
+fn place(assembly: &Assembly<Span<40>>, number: u32) -> Option<u32> {
+    assembly.position(NodeId { number })
+}
+
+// The places of five nodes.
+fn places(a: &Assembly<Span<40>>) -> [Option<u32>; 5] {
+    [
+        place(a, 0),
+        place(a, 1),
+        place(a, 2),
+        place(a, 3),
+        place(a, 4),
+    ]
+}
+
 #[test]
 fn inner_nodes_come_first_and_the_driven_one_last(rt: HostRuntime) -> Result<(), Fail> {
-    let alloc = rt.alloc();
-    let network = with_inner_nodes(alloc)?;
-    let assembly: Assembly<Span<40>> = driven_at(alloc, &network, 1)?;
-    assert_eq!(rt; assembly.size(), 5);
-    assert_position(&rt, &assembly, 3, 0);
-    assert_position(&rt, &assembly, 4, 1);
-    assert_position(&rt, &assembly, 0, 2);
-    assert_position(&rt, &assembly, 2, 3);
-    assert_position(&rt, &assembly, 1, 4);
-    let inner: Assembly<Span<40>> = driven_at(alloc, &network, 3)?;
-    assert_position(&rt, &inner, 4, 0);
-    assert_position(&rt, &inner, 0, 1);
-    assert_position(&rt, &inner, 1, 2);
-    assert_position(&rt, &inner, 2, 3);
-    assert_position(&rt, &inner, 3, 4);
+    let network = with_inner_nodes(rt.alloc())?;
+    for (driven, wanted) in [
+        (1, [Some(2), Some(4), Some(3), Some(0), Some(1)]),
+        (3, [Some(1), Some(2), Some(3), Some(4), Some(0)]),
+    ] {
+        let assembly = driven_at(rt.alloc(), &network, driven)?;
+        expect(
+            &rt,
+            (assembly.size(), places(&assembly)),
+            (5, wanted),
+            "the places",
+        );
+    }
     Ok(())
 }
 
@@ -249,17 +224,32 @@ fn with_great_banks(alloc: Global) -> Result<Network, Fail>
     Ok(network)
 }
 
+// The high end of the last entry's imaginary part, or the first branch with no value.
+fn last_entry(
+    alloc: Global,
+    assembly: &mut Assembly<Span<40>>,
+    order: u32,
+) -> Result<Result<Option<i64>, u32>, Fail> {
+    match filled(alloc, assembly, order, order)? {
+        Ok(matrix) => Ok(Ok(imaginary(&matrix, 1, 1).map(|ends| ends.1))),
+        Err(branch) => Ok(Err(branch)),
+    }
+}
+
+// Three times 2^20, less 1/h twice; then the sum of two banks out of range, and one bank.
 #[test]
 fn the_first_branch_without_a_value(rt: HostRuntime) -> Result<(), Fail> {
-    let alloc = rt.alloc();
-    let network = with_great_banks(alloc)?;
-    let matrix = matrix_at(&rt, alloc, &network, 1, 250_000)?;
-    // three times 2^20, less 1/h twice
-    let high = entry(&matrix, 1, 1)?.im.high();
-    assert_eq!(rt; high, (3 * 1_048_576 - 8) * UNIT);
-    let mut assembly: Assembly<Span<40>> = driven_at(alloc, &network, 1)?;
-    assert_out_of_range(&rt, alloc, &mut assembly, 500_000, 6)?;
-    assert_out_of_range(&rt, alloc, &mut assembly, 1_000_001, 3)
+    let network = with_great_banks(rt.alloc())?;
+    let mut assembly = driven_at(rt.alloc(), &network, 1)?;
+    for (order, wanted) in [
+        (250_000, Ok(Some(THREE_BANKS))),
+        (500_000, Err(6)),
+        (1_000_001, Err(3)),
+    ] {
+        let found = last_entry(rt.alloc(), &mut assembly, order)?;
+        expect(&rt, (order, found), (order, wanted), "the last entry");
+    }
+    Ok(())
 }
 
 // The law of a series branch of the reactance x.
@@ -301,28 +291,28 @@ fn grounded(alloc: Global, taps: &[Tap], law: Law) -> Result<Network, Fail>
 }
 
 // The assembly between two such buses with coils.
-fn between<E: Enclosure>(
+fn between(
     alloc: Global,
     taps: &[Tap],
     low: Fraction,
     high: Fraction,
-) -> Result<Assembly<E>, Fail> {
+) -> Result<Assembly<Span<40>>, Fail> {
     let first = grounded(alloc, taps, law_of_coil(ZERO, ONE, low))?;
     let second = grounded(alloc, taps, law_of_coil(ZERO, ONE, high))?;
-    let marks = live(alloc, &first)?;
-    if low.at_most(high) && 0 < first.nodes && marks[0] {
-        Ok(Assembly::between(alloc, &first, &second, NodeId { number: 0 })?)
+    let node = live_node(alloc, &first, 0)?;
+    if low.at_most(high) {
+        Ok(Assembly::between(alloc, &first, &second, node)?)
     } else {
         Err("no pair".into())
     }
 }
 
+// From -1 to -1/4.
 #[test]
 fn reactances_between_one_and_two(rt: HostRuntime) -> Result<(), Fail> {
-    let alloc = rt.alloc();
-    let mut assembly: Assembly<Span<40>> = between(alloc, &[tap(0, ONE)], ONE, TWO)?;
-    let (fill, matrix) = filled(alloc, &mut assembly, 1_000_000, 2_000_000)?;
-    assert!(rt; matches!(fill, Fill::Filled));
-    // from -1 to -1/4
-    assert_imaginary(&rt, &matrix, 0, 0, (-UNIT, -UNIT / 4))
+    let taps = [tap(0, ONE)];
+    let mut assembly = between(rt.alloc(), taps.as_slice(), ONE, TWO)?;
+    let matrix = filled(rt.alloc(), &mut assembly, 1_000_000, 2_000_000)?;
+    let entries = [(0, 0, (-UNIT, -QUARTER))];
+    expect_entries(&rt, matrix, 1, entries.as_slice())
 }

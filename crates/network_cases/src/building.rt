@@ -10,124 +10,225 @@ ghost use Rattle.net_branch.specs.Whole.{IsWholeNetwork, AreAtNodes};
 ghost use Rattle.net_branch.specs.declared.network.Law.TheVariants.{Coupled3};
 
 use crate::fixtures::{
-    MINUS_ONE, ONE, Part, Values, ZERO, bank, branch_of, coil, fill, push_to_whole, tap, tie,
+    MINUS_ONE, ONE, Part, Values, ZERO, add, bank, branch_of, coil, expect, network_of, push, tap,
+    tie,
 };
 use exact_fraction::Fraction;
 use net_branch::{
-    AddFault, Branch, Law, NetFault, Network, NodeId, Tap, add_node, append_element, live,
-    new_network, push_branch,
+    AddFault, Branch, Law, NetFault, Network, Tap, append_element, live, new_network, push_branch,
 };
 use sqlite_items::Items;
 use std::alloc::{AllocError, Global};
 use std::process::Abort;
 use std::test::Fail;
 
-#[test]
-fn a_new_network_has_its_buses(rt: HostRuntime) -> Result<(), Fail> {
-    let network = new_network(rt.alloc(), 3)?;
-    let counts = (network.buses, network.nodes, network.branches.len());
-    assert_eq!(rt; counts, (3, 3, 0));
-    Ok(())
+fn counts(network: &Network) -> (u32, usize) {
+    (network.nodes, network.branches.len())
 }
 
 #[test]
 fn nodes_are_added_up_to_the_limit(rt: HostRuntime) -> Result<(), Fail> {
+    let three = new_network(rt.alloc(), 3)?;
+    expect(
+        &rt,
+        (three.buses, counts(&three)),
+        (3, (3, 0)),
+        "three buses",
+    );
     let mut network = new_network(rt.alloc(), 118)?;
-    let first = add_node(&mut network);
-    let second = add_node(&mut network);
-    let third = add_node(&mut network);
-    assert!(rt; matches!(first, Ok(NodeId { number: 118 })));
-    assert!(rt; matches!(second, Ok(NodeId { number: 119 })));
-    assert!(rt; matches!(third, Err(NetFault::TooMany)));
-    assert_eq!(rt; (network.buses, network.nodes), (118, 120));
+    let found = (add(&mut network), add(&mut network), add(&mut network));
+    expect(
+        &rt,
+        found,
+        (Ok(118), Ok(119), Err(NetFault::TooMany)),
+        "three nodes more",
+    );
+    expect(
+        &rt,
+        (network.buses, network.nodes),
+        (118, 120),
+        "the full network",
+    );
     Ok(())
 }
 
-// Each part, pushed in its turn, is answered so.
-fn expect_pushes(
+// What is done to a network.
+#[derive(Clone, Copy)]
+enum Step {
+    Push(Part),
+    // so many shunts at node 0
+    Shunts(u32),
+    // an element with so many inner nodes: a series branch between two nodes and a shunt at the second
+    Tie(u32, u32, u32),
+}
+
+// Why a branch and why an element was refused.
+type Answer = (Option<NetFault>, Option<AddFault>);
+
+const DONE: Answer = (None, None);
+
+const OUT_OF_RANGE: Answer = (Some(NetFault::NodeOutOfRange), None);
+
+const TOO_MANY: Answer = (Some(NetFault::TooMany), None);
+
+const ZERO_LAW: Answer = (Some(NetFault::ZeroLaw), None);
+
+const ELEMENT_TOO_MANY: Answer = (None, Some(AddFault::TooMany));
+
+fn push_shunts(alloc: Global, network: &mut Network, count: u32) -> Result<(), Fail>
+    requires { IsWholeNetwork network.old }
+    ensures { IsWholeNetwork network.new }
+{
+    for _i in 0..count {
+        push(alloc, network, branch_of(alloc, &bank(0, ONE))?)?;
+    }
+    Ok(())
+}
+
+fn element_of(alloc: Global, from: u32, to: u32) -> Result<Items<Branch>, AllocError>
+    ensures taps { IfOk result (AreAtNodes (max from to + 1)) }
+    ensures uncoupled { IfOk result (AllByRecursion (λ b. IsUncoupled (exact_branch b))) }
+    ensures laws { IfOk result (AllByRecursion (λ b. is_zero_law b.law ≡ false)) }
+{
+    let between = Items::from_slice(alloc, &[tap(from, ONE), tap(to, ONE)])?;
+    let to_ground = Items::from_slice(alloc, &[tap(to, ONE)])?;
+    let mut branches = Items::new(alloc);
+    branches.push(Branch {
+        taps: between,
+        law: Law::Series {
+            r: ZERO,
+            k: ZERO,
+            m: ONE,
+            x: ONE,
+            xc: ZERO,
+        },
+        group: 0,
+        owner: 2,
+    })?;
+    branches.push(Branch {
+        taps: to_ground,
+        law: Law::Shunt { b: ONE },
+        group: 0,
+        owner: 2,
+    })?;
+    Ok(branches)
+}
+
+fn add_tie(
+    alloc: Global,
+    network: &mut Network,
+    inner: u32,
+    from: u32,
+    to: u32,
+) -> Result<Result<(), AddFault>, Fail>
+    requires { IsWholeNetwork network.old }
+    ensures { IsWholeNetwork network.new }
+{
+    let branches = element_of(alloc, from, to)?;
+    let nodes = u64::from(network.nodes) + u64::from(inner);
+    if u64::from(from) < nodes && u64::from(to) < nodes {
+        Ok(append_element(alloc, network, inner, branches))
+    } else {
+        Err("no node".into())
+    }
+}
+
+fn take(alloc: Global, network: &mut Network, step: Step) -> Result<Answer, Fail>
+    requires { IsWholeNetwork network.old }
+    ensures { IsWholeNetwork network.new }
+{
+    match step {
+        Step::Push(part) => {
+            let branch = branch_of(alloc, &part)?;
+            Ok((push(alloc, network, branch).err(), None))
+        }
+        Step::Shunts(count) => {
+            push_shunts(alloc, network, count)?;
+            Ok(DONE)
+        }
+        Step::Tie(inner, from, to) => Ok((None, add_tie(alloc, network, inner, from, to)?.err())),
+    }
+}
+
+// Each step, taken in its turn, is answered so and leaves so many nodes and branches.
+fn expect_steps(
     rt: &impl Abort,
     alloc: Global,
     network: &mut Network,
-    rows: &[(Part, Result<(), NetFault>)],
+    rows: &[(&str, Step, Answer, (u32, usize))],
 ) -> Result<(), Fail>
     requires { IsWholeNetwork network.old }
     ensures { IsWholeNetwork network.new }
 {
     for row in rows {
-        let (part, wanted) = *row;
-        let found = push_to_whole(alloc, network, branch_of(alloc, &part)?);
-        assert_eq!(rt; found, wanted);
+        let (label, step, answer, wanted) = *row;
+        let found = take(alloc, network, step)?;
+        expect(rt, (found, counts(network)), (answer, wanted), label);
     }
     Ok(())
 }
 
 // A series branch of r, x and xc between nodes 0 and 1.
-fn between(r: Fraction, x: Fraction, xc: Fraction) -> Part {
-    Part {
+fn between(r: Fraction, x: Fraction, xc: Fraction) -> Step {
+    Step::Push(Part {
         from: tap(0, ONE),
         to: Some(tap(1, MINUS_ONE)),
         values: Values::Series { r, x, xc },
-    }
+    })
 }
 
 // A shunt of nothing from node 0 to this one.
-fn nothing_to(number: u32) -> Part {
-    Part {
+fn nothing_to(number: u32) -> Step {
+    Step::Push(Part {
         from: tap(0, ONE),
         to: Some(tap(number, ONE)),
         values: Values::Shunt(ZERO),
-    }
+    })
 }
 
 #[test]
 fn refusals_come_in_their_order(rt: HostRuntime) -> Result<(), Fail> {
     let mut network = new_network(rt.alloc(), 2)?;
     let rows = [
-        (nothing_to(2), Err(NetFault::NodeOutOfRange)),
-        (bank(2, ONE), Err(NetFault::NodeOutOfRange)),
-        (bank(1, ZERO), Err(NetFault::ZeroLaw)),
-        (between(ZERO, ZERO, ZERO), Err(NetFault::ZeroLaw)),
+        ("nothing, out of range", nothing_to(2), OUT_OF_RANGE, (2, 0)),
+        (
+            "out of range",
+            Step::Push(bank(2, ONE)),
+            OUT_OF_RANGE,
+            (2, 0),
+        ),
+        ("no shunt", Step::Push(bank(1, ZERO)), ZERO_LAW, (2, 0)),
+        ("no branch", between(ZERO, ZERO, ZERO), ZERO_LAW, (2, 0)),
         // one of r, x and xc other than zero is enough
-        (between(ONE, ZERO, ZERO), Ok(())),
-        (between(ZERO, ONE, ZERO), Ok(())),
-        (between(ZERO, ZERO, ONE), Ok(())),
-        (between(ZERO, MINUS_ONE, ZERO), Ok(())),
+        ("r alone", between(ONE, ZERO, ZERO), DONE, (2, 1)),
+        ("x alone", between(ZERO, ONE, ZERO), DONE, (2, 2)),
+        ("xc alone", between(ZERO, ZERO, ONE), DONE, (2, 3)),
+        ("x below zero", between(ZERO, MINUS_ONE, ZERO), DONE, (2, 4)),
     ];
-    expect_pushes(&rt, rt.alloc(), &mut network, rows.as_slice())?;
-    assert_eq!(rt; network.branches.len(), 4);
-    Ok(())
-}
-
-// So many shunts at node 0.
-fn push_shunts(alloc: Global, network: &mut Network, count: u32) -> Result<(), Fail>
-    requires { IsWholeNetwork network.old }
-    ensures { IsWholeNetwork network.new }
-{
-    for _i in 0..count {
-        let branch = branch_of(alloc, &bank(0, ONE))?;
-        push_to_whole(alloc, network, branch).map_err(|_| "refused")?;
-    }
-    Ok(())
+    expect_steps(&rt, rt.alloc(), &mut network, rows.as_slice())
 }
 
 #[test]
 fn branches_are_pushed_up_to_the_limit(rt: HostRuntime) -> Result<(), Fail> {
     let mut network = new_network(rt.alloc(), 1)?;
-    push_shunts(rt.alloc(), &mut network, 799)?;
     let rows = [
-        (bank(0, ONE), Ok(())),
-        (bank(0, ONE), Err(NetFault::TooMany)),
+        ("799", Step::Shunts(799), DONE, (1, 799)),
+        ("the last", Step::Push(bank(0, ONE)), DONE, (1, 800)),
+        ("one more", Step::Push(bank(0, ONE)), TOO_MANY, (1, 800)),
         // a node out of range comes before, and a law of zero after
-        (bank(1, ONE), Err(NetFault::NodeOutOfRange)),
-        (bank(0, ZERO), Err(NetFault::TooMany)),
+        (
+            "out of range",
+            Step::Push(bank(1, ONE)),
+            OUT_OF_RANGE,
+            (1, 800),
+        ),
+        ("no shunt", Step::Push(bank(0, ZERO)), TOO_MANY, (1, 800)),
     ];
-    expect_pushes(&rt, rt.alloc(), &mut network, rows.as_slice())?;
-    assert_eq!(rt; network.branches.len(), 800);
-    Ok(())
+    expect_steps(&rt, rt.alloc(), &mut network, rows.as_slice())
 }
 
-// Which nodes of a whole network are live.
-fn assert_live(
+// Which nodes of a network are live.
+fn expect_live(
     rt: &impl Abort,
     alloc: Global,
     network: &Network,
@@ -141,11 +242,82 @@ fn assert_live(
     Ok(())
 }
 
+#[test]
+fn elements_are_added_whole_or_not_at_all(rt: HostRuntime) -> Result<(), Fail> {
+    let mut network = new_network(rt.alloc(), 118)?;
+    let steps = [
+        ("796 shunts", Step::Shunts(796), DONE, (118, 796)),
+        ("an element", Step::Tie(2, 118, 119), DONE, (120, 798)),
+        (
+            "a node too many",
+            Step::Tie(1, 0, 1),
+            ELEMENT_TOO_MANY,
+            (120, 798),
+        ),
+        ("a shunt more", Step::Shunts(1), DONE, (120, 799)),
+        (
+            "a branch too many",
+            Step::Tie(0, 0, 1),
+            ELEMENT_TOO_MANY,
+            (120, 799),
+        ),
+    ];
+    expect_steps(&rt, rt.alloc(), &mut network, steps.as_slice())?;
+    let mut wanted = [false; 120];
+    wanted[0] = true;
+    wanted[118] = true;
+    wanted[119] = true;
+    expect_live(
+        &rt,
+        rt.alloc(),
+        &network,
+        wanted.as_slice(),
+        "bus 0 and the element",
+    )
+}
+
+// How many taps a branch has.
+fn taps_of(network: &Network, place: usize) -> Option<usize> {
+    match network.branches.get(place) {
+        Some(branch) => Some(branch.taps.len()),
+        None => None,
+    }
+}
+
+#[test]
+fn elements_fill_a_network(rt: HostRuntime) -> Result<(), Fail> {
+    let mut network = new_network(rt.alloc(), 2)?;
+    let steps = [
+        ("798 shunts", Step::Shunts(798), DONE, (2, 798)),
+        ("an element", Step::Tie(0, 0, 1), DONE, (2, 800)),
+        ("one more", Step::Tie(0, 0, 1), ELEMENT_TOO_MANY, (2, 800)),
+    ];
+    expect_steps(&rt, rt.alloc(), &mut network, steps.as_slice())?;
+    let taps = (taps_of(&network, 798), taps_of(&network, 799));
+    expect(&rt, taps, (Some(2), Some(1)), "the element's taps");
+    Ok(())
+}
+
+// Which nodes of a network are live, and which are once it has one branch more.
+fn expect_live_by(
+    rt: &impl Abort,
+    alloc: Global,
+    network: Network,
+    before: &[bool],
+    more: Part,
+    after: &[bool],
+) -> Result<(), Fail>
+    requires { IsWholeNetwork network }
+{
+    let mut network = network;
+    expect_live(rt, alloc, &network, before, "before")?;
+    push(alloc, &mut network, branch_of(alloc, &more)?)?;
+    expect_live(rt, alloc, &network, after, "after")
+}
+
 // Each branch stands before the one that makes it live.
 #[test]
 fn a_chain_is_live_from_its_grounded_end(rt: HostRuntime) -> Result<(), Fail> {
-    let alloc = rt.alloc();
-    let mut network = new_network(alloc, 6)?;
     let chain = [
         tie(4, ONE, 5),
         tie(3, ONE, 4),
@@ -153,20 +325,24 @@ fn a_chain_is_live_from_its_grounded_end(rt: HostRuntime) -> Result<(), Fail> {
         tie(1, ONE, 2),
         tie(0, ONE, 1),
     ];
-    fill(alloc, &mut network, chain.as_slice())?;
-    assert_live(&rt, alloc, &network, [false; 6].as_slice(), "hanging")?;
-    fill(alloc, &mut network, &[bank(0, ONE)])?;
-    assert_live(&rt, alloc, &network, [true; 6].as_slice(), "grounded")
+    let network = network_of(rt.alloc(), 6, chain.as_slice())?;
+    let grounded = bank(0, ONE);
+    expect_live_by(&rt, rt.alloc(), network, &[false; 6], grounded, &[true; 6])
 }
 
 #[test]
 fn an_island_is_dead(rt: HostRuntime) -> Result<(), Fail> {
-    let alloc = rt.alloc();
-    let mut network = new_network(alloc, 6)?;
-    let parts = [tie(2, ONE, 3), tie(5, ONE, 1), coil(1, ZERO)];
-    fill(alloc, &mut network, parts.as_slice())?;
+    let parts = [tie(2, ONE, 3), tie(5, ONE, 1)];
+    let network = network_of(rt.alloc(), 6, parts.as_slice())?;
     let wanted = [false, true, false, false, false, true];
-    assert_live(&rt, alloc, &network, wanted.as_slice(), "one island")
+    expect_live_by(
+        &rt,
+        rt.alloc(),
+        network,
+        &[false; 6],
+        coil(1, ZERO),
+        &wanted,
+    )
 }
 
 // A branch of these taps, without resistance.
@@ -178,24 +354,32 @@ fn branch_at(alloc: Global, taps: &[Tap]) -> Result<Branch, Fail>
     Ok(branch)
 }
 
-// A winding of ratio 20, the other winding, and the inner node; and a branch of no taps, which makes nothing live.
+// Three buses and the inner node 3, with a branch between bus 0 at the ratio 20, bus 2 and the inner node, and a branch of no
+// taps, which makes nothing live.
+fn with_ratios(alloc: Global) -> Result<Network, Fail>
+    ensures { IfOk result IsWholeNetwork }
+{
+    let twenty = Fraction { num: 20, den: 1 };
+    let mut network = new_network(alloc, 3)?;
+    let inner = add(&mut network)?;
+    let taps = [tap(0, twenty), tap(2, MINUS_ONE), tap(inner, ONE)];
+    push(alloc, &mut network, branch_at(alloc, taps.as_slice())?)?;
+    push(alloc, &mut network, branch_at(alloc, &[])?)?;
+    Ok(network)
+}
+
 #[test]
 fn a_branch_with_ratios_joins_its_three_nodes(rt: HostRuntime) -> Result<(), Fail> {
-    let alloc = rt.alloc();
-    let mut network = new_network(alloc, 3)?;
-    let inner = add_node(&mut network);
-    assert!(rt; matches!(inner, Ok(NodeId { number: 3 })));
-    let twenty = Fraction { num: 20, den: 1 };
-    let taps = [tap(0, twenty), tap(2, MINUS_ONE), tap(3, ONE)];
-    let transformer = branch_at(alloc, taps.as_slice())?;
-    push_to_whole(alloc, &mut network, transformer).map_err(|_| "refused")?;
-    let tapless = branch_at(alloc, &[])?;
-    push_to_whole(alloc, &mut network, tapless).map_err(|_| "refused")?;
-    assert_live(&rt, alloc, &network, [false; 4].as_slice(), "hanging")?;
-    let grounded = branch_of(alloc, &coil(2, ZERO))?;
-    push_to_whole(alloc, &mut network, grounded).map_err(|_| "refused")?;
+    let network = with_ratios(rt.alloc())?;
     let wanted = [true, false, true, true];
-    assert_live(&rt, alloc, &network, wanted.as_slice(), "grounded")
+    expect_live_by(
+        &rt,
+        rt.alloc(),
+        network,
+        &[false; 4],
+        coil(2, ZERO),
+        &wanted,
+    )
 }
 
 // A phase of the group 7 with this value throughout.
@@ -270,104 +454,10 @@ fn with_group(alloc: Global, x: Fraction, y: Fraction) -> Result<Network, Fail>
 // One half, and two quarters.
 #[test]
 fn a_group_joins_no_phases(rt: HostRuntime) -> Result<(), Fail> {
-    let alloc = rt.alloc();
     let half = Fraction { num: 1, den: 2 };
     let two_quarters = Fraction { num: 2, den: 4 };
-    let mut network = with_group(alloc, half, two_quarters)?;
-    assert_eq!(rt; network.branches.len(), 3);
-    assert_live(&rt, alloc, &network, [false; 6].as_slice(), "hanging")?;
-    let grounded = branch_of(alloc, &bank(4, ONE))?;
-    push_to_whole(alloc, &mut network, grounded).map_err(|_| "refused")?;
+    let network = with_group(rt.alloc(), half, two_quarters)?;
+    expect(&rt, counts(&network), (6, 3), "a group");
     let wanted = [false, true, false, false, true, false];
-    assert_live(&rt, alloc, &network, wanted.as_slice(), "grounded")
-}
-
-// A series branch between two nodes and a shunt at the second.
-fn element_of(alloc: Global, from: u32, to: u32) -> Result<Items<Branch>, AllocError>
-    ensures taps { IfOk result (AreAtNodes (max from to + 1)) }
-    ensures uncoupled { IfOk result (AllByRecursion (λ b. IsUncoupled (exact_branch b))) }
-    ensures laws { IfOk result (AllByRecursion (λ b. is_zero_law b.law ≡ false)) }
-{
-    let between = Items::from_slice(alloc, &[tap(from, ONE), tap(to, ONE)])?;
-    let to_ground = Items::from_slice(alloc, &[tap(to, ONE)])?;
-    let mut branches = Items::new(alloc);
-    branches.push(Branch {
-        taps: between,
-        law: Law::Series {
-            r: ZERO,
-            k: ZERO,
-            m: ONE,
-            x: ONE,
-            xc: ZERO,
-        },
-        group: 0,
-        owner: 2,
-    })?;
-    branches.push(Branch {
-        taps: to_ground,
-        law: Law::Shunt { b: ONE },
-        group: 0,
-        owner: 2,
-    })?;
-    Ok(branches)
-}
-
-fn add_tie(
-    alloc: Global,
-    network: &mut Network,
-    inner: u32,
-    from: u32,
-    to: u32,
-) -> Result<Result<(), AddFault>, Fail>
-    requires { IsWholeNetwork network.old }
-    ensures { IsWholeNetwork network.new }
-{
-    let branches = element_of(alloc, from, to)?;
-    let nodes = u64::from(network.nodes) + u64::from(inner);
-    if u64::from(from) < nodes && u64::from(to) < nodes {
-        Ok(append_element(alloc, network, inner, branches))
-    } else {
-        Err("no node".into())
-    }
-}
-
-// How many nodes and branches a network has.
-fn assert_counts(rt: &impl Abort, network: &Network, wanted: (u32, usize), label: &str) {
-    let found = (network.nodes, network.branches.len());
-    assert_eq!(rt; found, wanted, "{label}");
-}
-
-#[test]
-fn elements_are_added_whole_or_not_at_all(rt: HostRuntime) -> Result<(), Fail> {
-    let alloc = rt.alloc();
-    let mut network = new_network(alloc, 118)?;
-    push_shunts(alloc, &mut network, 796)?;
-    let first = add_tie(alloc, &mut network, 2, 118, 119)?;
-    assert_counts(&rt, &network, (120, 798), "with an element");
-    let one_node_more = add_tie(alloc, &mut network, 1, 0, 1)?;
-    assert_counts(&rt, &network, (120, 798), "without a node more");
-    push_shunts(alloc, &mut network, 1)?;
-    let one_branch_more = add_tie(alloc, &mut network, 0, 0, 1)?;
-    assert_counts(&rt, &network, (120, 799), "without a branch more");
-    let refused = Err(AddFault::TooMany);
-    assert!(rt; first == Ok(()) && one_node_more == refused && one_branch_more == refused);
-    let values = live(alloc, &network)?;
-    assert_eq!(rt; values.len(), 120);
-    assert!(rt; values[0] && !values[1] && !values[117] && values[118] && values[119]);
-    Ok(())
-}
-
-#[test]
-fn elements_fill_a_network(rt: HostRuntime) -> Result<(), Fail> {
-    let alloc = rt.alloc();
-    let mut network = new_network(alloc, 2)?;
-    push_shunts(alloc, &mut network, 798)?;
-    let last = add_tie(alloc, &mut network, 0, 0, 1)?;
-    assert_counts(&rt, &network, (2, 800), "full");
-    let series_taps = network.branches.get(798).ok_or("none")?.taps.len();
-    let shunt_taps = network.branches.get(799).ok_or("none")?.taps.len();
-    assert_eq!(rt; (series_taps, shunt_taps), (2, 1));
-    let beyond = add_tie(alloc, &mut network, 0, 0, 1)?;
-    assert!(rt; last == Ok(()) && beyond == Err(AddFault::TooMany));
-    Ok(())
+    expect_live_by(&rt, rt.alloc(), network, &[false; 6], bank(4, ONE), &wanted)
 }

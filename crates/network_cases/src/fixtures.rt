@@ -7,10 +7,19 @@ ghost use Rattle.net_branch.specs.Whole.{IsWholeNetwork};
 ghost use Rattle.admittance_box.specs.HeldMatrix.{HasNoGroup};
 
 use exact_fraction::Fraction;
-use net_branch::{Branch, Law, NetFault, Network, NodeId, Tap, live, new_network, push_branch};
+use net_branch::{
+    Branch, Law, NetFault, Network, NodeId, Tap, add_node, live, new_network, push_branch,
+};
 use sqlite_items::Items;
 use std::alloc::Global;
+use std::fmt::Debug;
+use std::process::Abort;
 use std::test::Fail;
+
+/// Compares what was found with what was wanted. An assertion that stands in a test costs its proof more than this call does.
+pub fn expect<T: PartialEq + Debug + Drop>(rt: &impl Abort, found: T, wanted: T, label: &str) {
+    assert_eq!(rt; found, wanted, "{label}");
+}
 
 pub const ZERO: Fraction = Fraction { num: 0, den: 1 };
 
@@ -123,29 +132,26 @@ pub fn branch_of(alloc: Global, part: &Part) -> Result<Branch, Fail>
 }
 
 /// Adds an uncoupled branch, and answers as `push_branch` does.
-#[tactic(auto, using(net_branch::proofs::Wholes::uncoupled_next, net_branch::proofs::Wholes::uncoupled_grouped, net_branch::proofs::Wholes::whole_growing))]
-pub fn push_to_whole(alloc: Global, network: &mut Network, branch: Branch) -> Result<(), NetFault>
-    requires whole { IsWholeNetwork network.old }
-    requires uncoupled { IsUncoupled (exact_branch branch) }
-    ensures { IsWholeNetwork network.new }
-{
-    push_branch(alloc, network, branch)
-}
-
-/// Adds an uncoupled branch, or keeps the network.
 #[tactic(auto, using(net_branch::proofs::Wholes::uncoupled_next, net_branch::proofs::Wholes::uncoupled_grouped, net_branch::proofs::Wholes::whole_growing, admittance_box::proofs::Groups::none_more))]
-pub fn push(alloc: Global, network: &mut Network, branch: Branch) -> Result<(), Fail>
+pub fn push(alloc: Global, network: &mut Network, branch: Branch) -> Result<(), NetFault>
     requires whole { IsWholeNetwork network.old }
-    requires no_group { HasNoGroup (exact_network network.old) }
     requires uncoupled { IsUncoupled (exact_branch branch) }
     ensures whole { IsWholeNetwork network.new }
-    ensures no_group { HasNoGroup (exact_network network.new) }
+    ensures no_group { HasNoGroup (exact_network network.old) → HasNoGroup (exact_network network.new) }
     ensures pushed { OnOk result (network.new ≡ record network.old { branches = network.old.branches ++ branch ∷ [] }) }
 {
-    match push_branch(alloc, network, branch) {
-        Ok(()) => Ok(()),
-        Err(_) => Err("refused".into()),
-    }
+    push_branch(alloc, network, branch)?;
+    Ok(())
+}
+
+/// Adds a node, and answers its number.
+#[tactic(auto, using(net_branch::proofs::Wholes::whole_growing))]
+pub fn add(network: &mut Network) -> Result<u32, NetFault>
+    requires { IsWholeNetwork network.old }
+    ensures whole { IsWholeNetwork network.new }
+    ensures no_group { HasNoGroup (exact_network network.old) → HasNoGroup (exact_network network.new) }
+{
+    Ok(add_node(network)?.number)
 }
 
 /// Adds these parts.

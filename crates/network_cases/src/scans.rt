@@ -5,13 +5,15 @@ ghost use Rattle.net_branch.specs.Whole.{IsWholeNetwork};
 ghost use Rattle.admittance_box.specs.HeldMatrix.{HasNoGroup};
 ghost use Rattle.band_subdivision.specs.ScanSpec.{IsScanSpec};
 
-use crate::fixtures::{FOUR_HUNDREDTHS, TENTH, ZERO, coil, live_node, network_of, two_buses};
+use crate::fixtures::{
+    FOUR_HUNDREDTHS, TENTH, ZERO, coil, expect, live_node, network_of, two_buses,
+};
 use band_subdivision::{Scan, ScanSpec, Tested};
 use complex_interval::{Enclosure, Span};
 use exact_fraction::Fraction;
 use fixed_decimal::Decimal;
 use net_branch::Network;
-use scan_report::{BoxRow, Kind};
+use scan_report::Kind;
 use std::alloc::Global;
 use std::process::Abort;
 use std::test::Fail;
@@ -24,12 +26,14 @@ fn one_bus(alloc: Global, r: Fraction) -> Result<Network, Fail>
     network_of(alloc, 1, &[coil(0, r)])
 }
 
-// A band in micro-orders, with its finest and locating widths, and a threshold in micro-ohms.
-fn spec_of(band: [u32; 2], finest: u32, locate: u32, threshold: i64) -> Result<ScanSpec, Fail>
+// A band in micro-orders, its finest and its locating width, and a threshold in micro-ohms.
+type Asked = ([u32; 2], u32, u32, i64);
+
+fn spec_of(asked: Asked) -> Result<ScanSpec, Fail>
     ensures in_range { IfOk result IsScanSpec }
     ensures elimination { IfOk result (λ spec. spec.both ≡ false) }
 {
-    let [from, to] = band;
+    let ([from, to], finest, locate, threshold) = asked;
     let band = 100_000 <= from && from < to && to <= 100_000_000;
     let widths = 1 <= finest && finest <= locate && locate <= 100_000_000;
     if !band || !widths || threshold < 1 || threshold >= 1_000_000_000_000 {
@@ -61,23 +65,20 @@ fn scan_of<E: Enclosure>(
     alloc: Global,
     network: &Network,
     number: u32,
-    spec: &ScanSpec,
+    asked: Asked,
 ) -> Result<Scan<E>, Fail>
     requires whole { IsWholeNetwork network.now }
     requires no_group { HasNoGroup (exact_network network.now) }
-    requires spec { IsScanSpec spec.now }
-    requires elimination { spec.now.both ≡ false }
-    ensures { IfOk result (λ s. s.spec ≡ spec.now) }
 {
+    let spec = spec_of(asked)?;
     let node = live_node(alloc, network, number)?;
-    Ok(Scan::new(alloc, network, node, *spec)?)
+    Ok(Scan::new(alloc, network, node, spec)?)
 }
 
-// The same as the scan between the network and itself.
+// The scan between a network and itself, at node 0.
 fn scan_between<E: Enclosure>(
     alloc: Global,
     network: &Network,
-    number: u32,
     spec: &ScanSpec,
 ) -> Result<Scan<E>, Fail>
     requires whole { IsWholeNetwork network.now }
@@ -86,152 +87,244 @@ fn scan_between<E: Enclosure>(
     requires elimination { spec.now.both ≡ false }
     ensures { IfOk result (λ s. s.spec ≡ spec.now) }
 {
-    let node = live_node(alloc, network, number)?;
+    let node = live_node(alloc, network, 0)?;
     Ok(Scan::between(alloc, network, network, node, *spec)?)
 }
 
-// What a scan of this spec says of a box in its band.
-fn tested<E: Enclosure>(
-    scan: &mut Scan<E>,
-    spec: &ScanSpec,
-    lo: u32,
-    hi: u32,
-) -> Result<Tested, Fail>
-    requires { scan.old.spec ≡ spec.now }
+// A box from one order to another, and what is said of it.
+type Row = (u32, u32, Kind);
+
+fn next<E: Enclosure>(scan: &mut Scan<E>) -> Option<Row> {
+    match scan.next_box() {
+        Some(found) => Some((found.lo, found.hi, found.kind)),
+        None => None,
+    }
+}
+
+// The next boxes of a scan are these.
+fn expect_next<E: Enclosure>(rt: &impl Abort, scan: &mut Scan<E>, rows: &[Row]) {
+    for row in rows {
+        expect(rt, next(scan), Some(*row), "a box");
+    }
+}
+
+// The boxes that a scan has still to give are these.
+fn expect_boxes<E: Enclosure>(rt: &impl Abort, scan: &mut Scan<E>, rows: &[Row]) {
+    expect_next(rt, scan, rows);
+    expect(rt, next(scan), None, "the end");
+}
+
+// The boxes of a scan of a network at a live node are these.
+fn expect_scan<E: Enclosure>(
+    rt: &impl Abort,
+    alloc: Global,
+    network: &Network,
+    number: u32,
+    asked: Asked,
+    rows: &[Row],
+) -> Result<(), Fail>
+    requires whole { IsWholeNetwork network.now }
+    requires no_group { HasNoGroup (exact_network network.now) }
 {
-    if spec.from <= lo && lo <= hi && hi <= spec.to {
-        Ok(scan.test(lo, hi))
+    let mut scan: Scan<E> = scan_of(alloc, network, number, asked)?;
+    expect_boxes(rt, &mut scan, rows);
+    Ok(())
+}
+
+// Against half an ohm.
+const COIL: Asked = ([1_000_000, 10_000_000], 1_000, 5_000_000, 500_000);
+
+// |Z| = h ohms.
+const BOXES_OF_A_COIL: [Row; 2] = [
+    (
+        1_000_000,
+        5_500_000,
+        Kind::Peak {
+            at: 3_250_000,
+            micro_ohms: 3_249_999,
+        },
+    ),
+    (
+        5_500_000,
+        10_000_000,
+        Kind::Peak {
+            at: 7_750_000,
+            micro_ohms: 7_749_999,
+        },
+    ),
+];
+
+#[test]
+fn a_coil_is_above_at_both_middles(rt: HostRuntime) -> Result<(), Fail> {
+    let network = one_bus(rt.alloc(), ZERO)?;
+    let rows = BOXES_OF_A_COIL;
+    expect_scan::<Span<40>>(&rt, rt.alloc(), &network, 0, COIL, rows.as_slice())?;
+    expect_scan::<Span<48>>(&rt, rt.alloc(), &network, 0, COIL, rows.as_slice())
+}
+
+#[test]
+fn a_scan_between_a_network_and_itself(rt: HostRuntime) -> Result<(), Fail> {
+    let network = one_bus(rt.alloc(), ZERO)?;
+    let spec = spec_of(COIL)?;
+    let mut scan: Scan<Span<40>> = scan_between(rt.alloc(), &network, &spec)?;
+    expect_boxes(&rt, &mut scan, BOXES_OF_A_COIL.as_slice());
+    Ok(())
+}
+
+const UNDECIDED: [Row; 1] = [(4_990_000, 5_010_000, Kind::Undecided)];
+
+// At the order 5 the admittance of node 0 is zero.
+#[test]
+fn a_resonance_at_another_bus_leaves_a_box_undecided(rt: HostRuntime) -> Result<(), Fail> {
+    let network = two_buses(rt.alloc())?;
+    let asked = ([4_990_000, 5_010_000], 20_000, 20_000, 20_000_000);
+    let rows = UNDECIDED;
+    expect_scan::<Span<40>>(&rt, rt.alloc(), &network, 1, asked, rows.as_slice())?;
+    expect_scan::<Span<48>>(&rt, rt.alloc(), &network, 1, asked, rows.as_slice())
+}
+
+// Begins anew, if there is an extra susceptance.
+fn restart(rt: &impl Abort, scan: &mut Scan<Span<40>>, extra: Option<Fraction>)
+    ensures { scan.new.spec ≡ scan.old.spec }
+{
+    if let Some(extra) = extra {
+        assert!(rt; 0 <= extra.num);
+        scan.restart(extra);
+    }
+}
+
+// |Z| is at most 7.01 ohms.
+const WITHOUT_A_BANK: [Row; 1] = [(3_000_000, 7_000_000, Kind::Cleared)];
+
+const WITH_A_BANK: [Row; 6] = [
+    (3_000_000, 4_000_000, Kind::Cleared),
+    (
+        4_000_000,
+        4_500_000,
+        Kind::Peak {
+            at: 4_500_000,
+            micro_ohms: 23_584_458,
+        },
+    ),
+    (
+        4_500_000,
+        5_000_000,
+        Kind::Peak {
+            at: 4_750_000,
+            micro_ohms: 47_829_051,
+        },
+    ),
+    (
+        5_000_000,
+        5_500_000,
+        Kind::Peak {
+            at: 5_250_000,
+            micro_ohms: 50_186_343,
+        },
+    ),
+    (
+        5_500_000,
+        6_000_000,
+        Kind::Peak {
+            at: 5_500_000,
+            micro_ohms: 26_052_232,
+        },
+    ),
+    (6_000_000, 7_000_000, Kind::Cleared),
+];
+
+// The first two boxes with the bank are asked for twice, since in mid-walk the whole list comes again.
+#[test]
+fn a_resonance_with_an_extra_bank(rt: HostRuntime) -> Result<(), Fail> {
+    let network = one_bus(rt.alloc(), TENTH)?;
+    let asked = ([3_000_000, 7_000_000], 125_000, 500_000, 20_000_000);
+    let mut scan = scan_of(rt.alloc(), &network, 0, asked)?;
+    expect_boxes(&rt, &mut scan, WITHOUT_A_BANK.as_slice());
+    restart(&rt, &mut scan, Some(FOUR_HUNDREDTHS));
+    expect_next(&rt, &mut scan, &WITH_A_BANK[..2]);
+    restart(&rt, &mut scan, Some(FOUR_HUNDREDTHS));
+    expect_boxes(&rt, &mut scan, WITH_A_BANK.as_slice());
+    restart(&rt, &mut scan, Some(ZERO));
+    expect_boxes(&rt, &mut scan, WITHOUT_A_BANK.as_slice());
+    Ok(())
+}
+
+const CLEAR: Tested = Tested {
+    clear: true,
+    micro_ohms: None,
+};
+
+const NEITHER: Tested = Tested {
+    clear: false,
+    micro_ohms: None,
+};
+
+const fn above(micro_ohms: i128) -> Tested {
+    Tested {
+        clear: false,
+        micro_ohms: Some(micro_ohms),
+    }
+}
+
+// What a scan between a coil and itself says of an order, where a coil has so many ohms, with an extra susceptance.
+fn tested(
+    rt: &impl Abort,
+    alloc: Global,
+    asked: Asked,
+    extra: Option<Fraction>,
+    order: u32,
+) -> Result<Tested, Fail> {
+    let network = one_bus(alloc, ZERO)?;
+    let spec = spec_of(asked)?;
+    let mut scan = scan_between(alloc, &network, &spec)?;
+    restart(rt, &mut scan, extra);
+    if spec.from <= order && order <= spec.to {
+        Ok(scan.test(order, order))
     } else {
         Err("not in the band".into())
     }
 }
 
-fn cleared(lo: u32, hi: u32) -> BoxRow {
-    BoxRow {
-        lo,
-        hi,
-        kind: Kind::Cleared,
-    }
-}
-
-fn peak(lo: u32, hi: u32, at: u32, micro_ohms: i128) -> BoxRow {
-    BoxRow {
-        lo,
-        hi,
-        kind: Kind::Peak { at, micro_ohms },
-    }
-}
-
-// The boxes that a scan has still to give are these.
-fn expect_boxes<E: Enclosure>(rt: &impl Abort, scan: &mut Scan<E>, rows: &[BoxRow]) {
-    for row in rows {
-        assert_eq!(rt; scan.next_box(), Some(*row));
-    }
-    assert_eq!(rt; scan.next_box(), None);
-}
-
-// |Z| = h ohms, against half an ohm.
-fn base_boxes() -> [BoxRow; 2] {
-    [
-        peak(1_000_000, 5_500_000, 3_250_000, 3_249_999),
-        peak(5_500_000, 10_000_000, 7_750_000, 7_749_999),
-    ]
-}
-
-#[test]
-fn a_coil_is_above_at_both_middles(rt: HostRuntime) -> Result<(), Fail> {
-    let alloc = rt.alloc();
-    let network = one_bus(alloc, ZERO)?;
-    let spec = spec_of([1_000_000, 10_000_000], 1_000, 5_000_000, 500_000)?;
-    let mut scan: Scan<Span<40>> = scan_between(alloc, &network, 0, &spec)?;
-    let point = tested(&mut scan, &spec, 3_250_000, 3_250_000)?;
-    let found = Tested {
-        clear: false,
-        micro_ohms: Some(3_249_999),
-    };
-    assert_eq!(rt; point, found);
-    expect_boxes(&rt, &mut scan, base_boxes().as_slice());
-    let mut finer: Scan<Span<48>> = scan_of(alloc, &network, 0, &spec)?;
-    expect_boxes(&rt, &mut finer, base_boxes().as_slice());
-    Ok(())
-}
-
-#[test]
-fn a_resonance_with_an_extra_bank(rt: HostRuntime) -> Result<(), Fail> {
-    let alloc = rt.alloc();
-    let network = one_bus(alloc, TENTH)?;
-    let spec = spec_of([3_000_000, 7_000_000], 125_000, 500_000, 20_000_000)?;
-    let mut scan: Scan<Span<40>> = scan_of(alloc, &network, 0, &spec)?;
-    // without it |Z| is at most 7.01 ohms
-    expect_boxes(&rt, &mut scan, [cleared(3_000_000, 7_000_000)].as_slice());
-    scan.restart(FOUR_HUNDREDTHS);
-    let rows = [
-        cleared(3_000_000, 4_000_000),
-        peak(4_000_000, 4_500_000, 4_500_000, 23_584_458),
-        peak(4_500_000, 5_000_000, 4_750_000, 47_829_051),
-        peak(5_000_000, 5_500_000, 5_250_000, 50_186_343),
-        peak(5_500_000, 6_000_000, 5_500_000, 26_052_232),
-        cleared(6_000_000, 7_000_000),
-    ];
-    assert_eq!(rt; scan.next_box(), Some(rows[0]));
-    assert_eq!(rt; scan.next_box(), Some(rows[1]));
-    // in mid-walk the whole list comes again
-    scan.restart(FOUR_HUNDREDTHS);
-    expect_boxes(&rt, &mut scan, rows.as_slice());
-    scan.restart(ZERO);
-    expect_boxes(&rt, &mut scan, [cleared(3_000_000, 7_000_000)].as_slice());
-    Ok(())
-}
-
-// At the order 5 the admittance of node 0 is zero.
-#[test]
-fn a_resonance_at_another_bus_leaves_a_box_undecided(rt: HostRuntime) -> Result<(), Fail> {
-    let alloc = rt.alloc();
-    let network = two_buses(alloc)?;
-    let spec = spec_of([4_990_000, 5_010_000], 20_000, 20_000, 20_000_000)?;
-    let rows = [BoxRow {
-        lo: 4_990_000,
-        hi: 5_010_000,
-        kind: Kind::Undecided,
-    }];
-    let mut scan: Scan<Span<40>> = scan_of(alloc, &network, 1, &spec)?;
-    expect_boxes(&rt, &mut scan, rows.as_slice());
-    let mut finer: Scan<Span<48>> = scan_of(alloc, &network, 1, &spec)?;
-    expect_boxes(&rt, &mut finer, rows.as_slice());
-    Ok(())
-}
-
-// What a scan of this threshold says of the order 4, where a coil has 4 ohms, with a further susceptance.
-fn assert_at_four(
-    rt: &impl Abort,
-    alloc: Global,
-    threshold: i64,
-    extra: Fraction,
-    wanted: Tested,
-    label: &str,
-) -> Result<(), Fail> {
-    assert!(rt; 0 <= extra.num);
-    let network = one_bus(alloc, ZERO)?;
-    let spec = spec_of([3_000_000, 5_000_000], 1_000, 1_000, threshold)?;
-    let mut scan: Scan<Span<40>> = scan_of(alloc, &network, 0, &spec)?;
-    scan.restart(extra);
-    let found = tested(&mut scan, &spec, 4_000_000, 4_000_000)?;
-    assert_eq!(rt; found, wanted, "{label}");
-    Ok(())
+// About the order 4, with a threshold.
+const fn near(threshold: i64) -> Asked {
+    ([3_000_000, 5_000_000], 1_000, 1_000, threshold)
 }
 
 // A bank of 1/16 leaves nothing of the coil's admittance, so no impedance exists.
 #[test]
-fn at_the_threshold_and_where_no_impedance_exists(rt: HostRuntime) -> Result<(), Fail> {
+fn single_orders(rt: HostRuntime) -> Result<(), Fail> {
     let sixteenth = Fraction { num: 1, den: 16 };
-    for (label, threshold, extra, clear, micro_ohms) in [
-        ("at the threshold", 4_000_000, ZERO, true, None),
-        ("above it", 3_999_999, ZERO, false, Some(4_000_000)),
-        ("below it", 4_000_001, ZERO, true, None),
-        ("no impedance", 4_000_000, sixteenth, false, None),
+    for (label, asked, extra, order, wanted) in [
+        ("a middle", COIL, None, 3_250_000, above(3_249_999)),
+        (
+            "at the threshold",
+            near(4_000_000),
+            Some(ZERO),
+            4_000_000,
+            CLEAR,
+        ),
+        (
+            "above it",
+            near(3_999_999),
+            Some(ZERO),
+            4_000_000,
+            above(4_000_000),
+        ),
+        ("below it", near(4_000_001), Some(ZERO), 4_000_000, CLEAR),
+        (
+            "no impedance",
+            near(4_000_000),
+            Some(sixteenth),
+            4_000_000,
+            NEITHER,
+        ),
     ] {
-        let wanted = Tested { clear, micro_ohms };
-        assert_at_four(&rt, rt.alloc(), threshold, extra, wanted, label)?;
+        expect(
+            &rt,
+            tested(&rt, rt.alloc(), asked, extra, order)?,
+            wanted,
+            label,
+        );
     }
     Ok(())
 }

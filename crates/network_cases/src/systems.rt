@@ -1,21 +1,38 @@
 // Each law is called once, at rows that meet its premises, beside the arithmetic of its conclusion.
+use crate::fixtures::expect;
 use exact_fraction::Fraction;
 use linear_laws::{Rows, elimination_step, front_of_zero_rows, injective_is_solvable};
 use std::alloc::Global;
-use std::process::Abort;
 use std::test::Fail;
 
+const FULL: [[i128; 2]; 2] = [[2, 1], [1, 2]];
+
+const BEGINNING_WITH_ZERO: [[i128; 2]; 2] = [[0, 1], [0, 2]];
+
 fn row_of(alloc: Global, entries: [i128; 2]) -> Result<Vec<Fraction>, Fail> {
-    let first = Fraction::new(entries[0], 1).ok_or("out of range")?;
-    let second = Fraction::new(entries[1], 1).ok_or("out of range")?;
-    Ok([first, second].to_vec(alloc)?)
+    let mut row = Vec::new(alloc);
+    for entry in entries {
+        row.push(Fraction::new(entry, 1).ok_or("out of range")?)?;
+    }
+    Ok(row)
 }
 
 fn rows_of(alloc: Global, entries: [[i128; 2]; 2]) -> Result<Rows, Fail> {
     let mut list = Vec::new(alloc);
-    list.push(row_of(alloc, entries[0])?)?;
-    list.push(row_of(alloc, entries[1])?)?;
+    for entries in entries {
+        list.push(row_of(alloc, entries)?)?;
+    }
     Ok(Rows { list })
+}
+
+#[test]
+fn laws_are_called(rt: HostRuntime) -> Result<(), Fail> {
+    let beginning_with_zero = rows_of(rt.alloc(), BEGINNING_WITH_ZERO)?;
+    let full = rows_of(rt.alloc(), FULL)?;
+    front_of_zero_rows(&beginning_with_zero);
+    elimination_step(&full);
+    injective_is_solvable(&full);
+    Ok(())
 }
 
 fn dot(row: [i128; 2], x: [i128; 2]) -> i128 {
@@ -24,52 +41,17 @@ fn dot(row: [i128; 2], x: [i128; 2]) -> i128 {
         .wrapping_add(row[1].wrapping_mul(x[1]))
 }
 
-// What both rows give at x.
-fn values_at(rows: [[i128; 2]; 2], x: [i128; 2]) -> [i128; 2] {
-    [dot(rows[0], x), dot(rows[1], x)]
-}
-
-fn assert_values(
-    rt: &impl Abort,
-    rows: [[i128; 2]; 2],
-    x: [i128; 2],
-    wanted: [i128; 2],
-    label: &str,
-) {
-    assert_eq!(rt; values_at(rows, x), wanted, "{label}");
-}
-
+// What both rows give at x. Twice the second of the full rows less the first is (0, 3), so y = 2 for the right sides 4 and 5,
+// and x = 1. The last rows are zero elsewhere too, so the law of one solution says nothing of them.
 #[test]
-fn rows_that_begin_with_zero(rt: HostRuntime) -> Result<(), Fail> {
-    let entries = [[0, 1], [0, 2]];
-    front_of_zero_rows(&rows_of(rt.alloc(), entries)?);
-    assert_values(&rt, entries, [1, 0], [0, 0], "a zero");
-    assert_values(&rt, entries, [0, 1], [1, 2], "no zero");
-    Ok(())
-}
-
-// Twice the second row less the first is (0, 3), so y = 2 for the right sides 4 and 5, and x = 1.
-#[test]
-fn one_step(rt: HostRuntime) -> Result<(), Fail> {
-    let entries = [[2, 1], [1, 2]];
-    elimination_step(&rows_of(rt.alloc(), entries)?);
-    assert_values(
-        &rt,
-        [[2, 1], [0, 3]],
-        [1, 2],
-        [4, 2 * 5 - 4],
-        "after the step",
-    );
-    assert_values(&rt, entries, [1, 2], [4, 5], "before it");
-    Ok(())
-}
-
-// 2x + y = 4 and x + 2y = 5 at (1, 2) alone; x + 2y and 2x + 4y are zero at (2, -1) too, so the law says nothing of them.
-#[test]
-fn one_solution(rt: HostRuntime) -> Result<(), Fail> {
-    let entries = [[2, 1], [1, 2]];
-    injective_is_solvable(&rows_of(rt.alloc(), entries)?);
-    assert_values(&rt, entries, [1, 2], [4, 5], "the solution");
-    assert_values(&rt, [[1, 2], [2, 4]], [2, -1], [0, 0], "a further zero");
-    Ok(())
+fn values_of_rows(rt: HostRuntime) {
+    for (label, rows, x, wanted) in [
+        ("a zero", BEGINNING_WITH_ZERO, [1, 0], [0, 0]),
+        ("no zero", BEGINNING_WITH_ZERO, [0, 1], [1, 2]),
+        ("the solution", FULL, [1, 2], [4, 5]),
+        ("after a step", [[2, 1], [0, 3]], [1, 2], [4, 2 * 5 - 4]),
+        ("a further zero", [[1, 2], [2, 4]], [2, -1], [0, 0]),
+    ] {
+        expect(&rt, [dot(rows[0], x), dot(rows[1], x)], wanted, label);
+    }
 }

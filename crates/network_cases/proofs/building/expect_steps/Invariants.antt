@@ -1,5 +1,5 @@
 use Rattle.net_branch.specs.Whole.{IsWholeNetwork}
-use Rattle.network_cases.proofs.building.expect_pushes.Given as goal
+use Rattle.network_cases.proofs.building.expect_steps.Given as goal
 
 abbrev pub invariant-loop-row : goal.invariant-loop-row
 invariant-loop-row g l = IsWholeNetwork l.network
