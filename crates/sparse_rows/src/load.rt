@@ -3,9 +3,9 @@ ghost use Rattle.std.specs.Prelude.{◌≡◌, ℕ, ◌+◌, ◌*◌, ◌<◌, �
 ghost use Rattle.complex_interval.specs.Rect.{box_of};
 ghost use Rattle.sparse_rows.specs.Listed.{Out, IsFill, SameAt, CloserTo};
 
-use crate::cells::{cell, set_cell};
+use crate::cells::cell;
 use complex_interval::{Enclosure, Rect};
-use plain_elimination::Column;
+use plain_elimination::{Column, set_cell};
 
 // Copies this cell.
 fn load_cell<E: Enclosure>(cells: &mut [Rect<E>], source: &[Rect<E>], at: usize)
