@@ -2,7 +2,6 @@ use Rattle.std.proofs.Common.{◌≡◌, ◌+◌, ◌*◌, ◌-◌, length, drop
 use Rattle.std.proofs.lemmas.List.{length-drop}
 use Rattle.complex_interval.specs.Rect.{box_of}
 use Rattle.sparse_rows.specs.Listed.{Skips, ZeroAt}
-use Rattle.sparse_rows.proofs.Columns.{resized}
 use Rattle.sparse_rows.proofs.reduction.reduce_by.Goals as goal
 
 pub eliminate_rows-requires-clause-rows_listed : goal.eliminate_rows-requires-clause-rows_listed
