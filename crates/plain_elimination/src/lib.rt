@@ -13,7 +13,7 @@ mod row;
 mod rows;
 mod solution;
 
-pub use cells::{clear_cells, nought_cells};
+pub use cells::{cells_from, cells_up_to, clear_cells, nought_cells, set_cell};
 pub use column::Column;
 pub use failure::Failure;
 pub use laws::{reduction_holds, solution_holds, worked_reductions};

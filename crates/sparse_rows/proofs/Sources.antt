@@ -1,7 +1,8 @@
 -- A matrix that is zero outside a pattern is zero outside its fill.
-use Rattle.std.proofs.Common.{◌≡◌, ℕ, ◌+◌, ◌*◌, ◌<◌, ◌≤◌, List, length, get_or, map, Some, refl, sym, ap, ◌∙◌, arith}
+use Rattle.std.proofs.Common.{◌≡◌, ℕ, ◌+◌, ◌*◌, ◌<◌, ◌≤◌, List, length, get_or, map, Some, refl, sym, subst, ap, ◌∙◌, arith}
 use Rattle.std.proofs.lemmas.List.{get_or_default, get_or_past, map-id}
 use Rattle.complex_interval.specs.Rectangles.{Rectangle}
+use Rattle.plain_elimination.specs.declared.pattern.Spot.{Spot}
 use Rattle.plain_elimination.specs.Layout.{rows_of}
 use Rattle.plain_elimination.specs.Matrix.{Square, entry, nought_rectangle}
 use Rattle.plain_elimination.proofs.Layouts.{row_fits}
@@ -22,19 +23,23 @@ entry_zero n a b xs la lb square e =
     let same : Some x ≡ Some nought_rectangle = sym read' ∙ e in
     cc
 
-pub zero_source : (pattern : Places) (matrix : Square) (gaps : List ℕ) (cells sides xs : List Rectangle) → IsBench pattern.size pattern.places gaps cells sides → matrix.size ≡ pattern.size → Keeps pattern matrix
-    → rows_of matrix.size matrix.size xs ≡ matrix.rows → length xs ≡ matrix.size * matrix.size → ZeroOutside gaps xs
-zero_source pattern matrix gaps cells sides xs bench es keeps rows square q out =
-    let n = pattern.size in
-    let square' : length xs ≡ n * n = square ∙ ap (λ m. m * m) es in
-    let rows' : rows_of n n xs ≡ matrix.rows = ap (λ m. rows_of m m xs) (sym es) ∙ rows in
-    by_lt q (n * n)
-    (λ (l : q < n * n).
-    by_place (λ p. Out gaps p → ZeroAt xs p) n n q l
-    (λ a b la lb o. entry_zero n a b xs la lb square' (ap (λ rs. entry rs a b) rows' ∙ keeps a b la lb (bench.covered a b la lb o)))
-    out)
-    (λ (l : n * n ≤ q). get_or_past xs q nought_rectangle (omega arith))
+module _ (n : ℕ) (places : List Spot) (pattern : Places) (matrix : Square) (view : record { size = n; places = places } ≡ pattern) (sizes : matrix.size ≡ pattern.size) where
+  pub same_size : matrix.size ≡ n
+  same_size = sizes ∙ sym (ap (λ (p : Places). p.size) view)
 
--- the rows by the size of the pattern
-pub rows_same : (n m : ℕ) (xs : List Rectangle) (rows : List (List Rectangle)) → m ≡ n → rows_of m m xs ≡ rows → rows_of n n xs ≡ rows
-rows_same n m xs rows e k = ap (λ i. rows_of i i xs) (sym e) ∙ k
+  -- the rows by the size of the bench
+  pub rows_same : (xs : List Rectangle) → rows_of matrix.size matrix.size xs ≡ matrix.rows → rows_of n n xs ≡ matrix.rows
+  rows_same xs rows = ap (λ m. rows_of m m xs) (sym same_size) ∙ rows
+
+  pub zero_source : (gaps : List ℕ) (cells sides xs : List Rectangle) → IsBench n places gaps cells sides → Keeps pattern matrix → rows_of matrix.size matrix.size xs ≡ matrix.rows → length xs ≡ matrix.size * matrix.size
+      → ZeroOutside gaps xs
+  zero_source gaps cells sides xs bench keeps rows square q out =
+      let keeps_here : Keeps (record { size = n; places = places }) matrix = subst (λ (p : Places). Keeps p matrix) (sym view) keeps in
+      let square' : length xs ≡ n * n = square ∙ ap (λ m. m * m) same_size in
+      let rows' = rows_same xs rows in
+      by_lt q (n * n)
+      (λ (l : q < n * n).
+      by_place (λ p. Out gaps p → ZeroAt xs p) n n q l
+      (λ a b la lb o. entry_zero n a b xs la lb square' (ap (λ rs. entry rs a b) rows' ∙ keeps_here a b la lb (bench.covered a b la lb o)))
+      out)
+      (λ (l : n * n ≤ q). get_or_past xs q nought_rectangle (omega arith))

@@ -1,6 +1,5 @@
 -- Lists of places by gaps, and what is left out between them.
-use Rattle.std.specs.Prelude.{ℕ, ◌+◌, ◌<◌, ◌≤◌, ◌≡◌, List, length, ◌*◌, ◌⊎◌}
-use Rattle.std.proofs.Common.{get_or}
+use Rattle.std.specs.Prelude.{ℕ, ◌+◌, ◌<◌, ◌≤◌, ◌≡◌, List, length, get_or, ◌*◌, ◌⊎◌}
 use Rattle.complex_interval.specs.Rectangles.{Rectangle}
 use Rattle.plain_elimination.specs.Matrix.{nought_rectangle}
 

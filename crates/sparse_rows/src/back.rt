@@ -9,9 +9,9 @@ ghost use Rattle.plain_elimination.specs.Rectangles.{rectangles};
 ghost use Rattle.sparse_rows.specs.Listed.{Skips, ZeroAt, ZeroOutside, IsFill};
 ghost use Rattle.plain_elimination.specs.declared.limits.TheConstants.{MAX_SIZE};
 
-use crate::cells::{cell, cells_from, cells_up_to, gaps_from, gaps_up_to, set_cell};
+use crate::cells::{gaps_from, gaps_up_to};
 use complex_interval::{Enclosure, Rect};
-use plain_elimination::Failure;
+use plain_elimination::{Failure, cells_from, cells_up_to, set_cell};
 
 // What is left of a right side: b less each a x at the listed places, in order. The places between are zero in the row.
 fn take_away_listed<E: Enclosure>(

@@ -1,4 +1,4 @@
-// A bench on which matrices of one pattern are reduced.
+// A bench on which matrices of one pattern are reduced and systems of it are solved.
 ghost use Rattle.std.specs.Prelude.{◌≡◌, ◌*◌, ◌<◌, ◌≤◌, Ok, IfOk, OnOk, length, map};
 ghost use Rattle.complex_interval.specs.Rect.{rectangle_of};
 ghost use Rattle.plain_elimination.specs.Elimination.{bind, reduce, solve};
@@ -21,7 +21,7 @@ use std::alloc::{AllocError, Global};
 use std::marker::Model;
 
 /// A bench, which contracts see as its pattern. `gaps` lists the places of the pattern and its fill: of each listed place the
-/// way to the next one in its row, and 0 at all other places. The cells are zero there.
+/// way to the next one in its row, and 0 at all other places. There the cells are zero. `sides` has room for a right side.
 #[derive(Drop)]
 pub struct SparseBench<E: Enclosure> {
     size: u32,

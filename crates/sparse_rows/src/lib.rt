@@ -1,4 +1,4 @@
-// Reduction and solving of complex intervals by rows with a fill pattern.
+// Reduction and solving of complex intervals at the places of a pattern and its fill, with the values of `plain_elimination`.
 #![tactic(auto)]
 
 mod back;

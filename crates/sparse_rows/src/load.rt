@@ -4,9 +4,9 @@ ghost use Rattle.complex_interval.specs.Rect.{rectangle_of};
 ghost use Rattle.sparse_rows.specs.Listed.{Out, IsFill, SameAt, CloserTo};
 ghost use Rattle.plain_elimination.specs.declared.limits.TheConstants.{MAX_SIZE};
 
-use crate::cells::{cell, set_cell};
+use crate::cells::cell;
 use complex_interval::{Enclosure, Rect};
-use plain_elimination::Column;
+use plain_elimination::{Column, set_cell};
 
 // Copies this cell.
 fn load_cell<E: Enclosure>(cells: &mut [Rect<E>], source: &[Rect<E>], at: usize)

@@ -10,10 +10,10 @@ ghost use Rattle.sparse_rows.specs.Listed.{Skips, ZeroAt, ZeroOutside, KeepsZero
 ghost use Rattle.sparse_rows.specs.Sides.{column_of, later_entries};
 ghost use Rattle.plain_elimination.specs.declared.limits.TheConstants.{MAX_SIZE};
 
-use crate::cells::{cell, cells_from, gaps_from, gaps_up_to};
+use crate::cells::{cell, gaps_from, gaps_up_to};
 use crate::rows::eliminate_rows;
 use complex_interval::{Enclosure, Rect};
-use plain_elimination::{Failure, holds_zero};
+use plain_elimination::{Failure, cells_from, holds_zero};
 
 // One step, by the pivot's row from the pivot on, with its gaps.
 fn reduce_by<E: Enclosure>(

@@ -8,9 +8,9 @@ ghost use Rattle.sparse_rows.specs.Listed.{Skips, ZeroAt, Agree};
 ghost use Rattle.plain_elimination.specs.Matrix.{nought_rectangle};
 ghost use Rattle.plain_elimination.specs.declared.limits.TheConstants.{MAX_SIZE};
 
-use crate::cells::{cell, set_cell};
+use crate::cells::cell;
 use complex_interval::{Enclosure, Rect};
-use plain_elimination::is_zero;
+use plain_elimination::{is_zero, set_cell};
 
 /// Each entry a of the row becomes a - f a0, a0 the entry of the pivot row in the same place. `start` is the first listed
 /// place, and `gaps` has the way from each place to the next one. The places between are zero in the pivot's row.

@@ -8,9 +8,9 @@ ghost use Rattle.sparse_rows.specs.Listed.{Skips, ZeroAt};
 ghost use Rattle.sparse_rows.specs.Sides.{column_of, later_side, later_sides};
 ghost use Rattle.plain_elimination.specs.declared.limits.TheConstants.{MAX_SIZE};
 
-use crate::cells::{cell, set_cell};
+use crate::cells::cell;
 use complex_interval::{Enclosure, Rect};
-use plain_elimination::is_zero;
+use plain_elimination::{is_zero, set_cell};
 
 // What becomes of a later right side: `entry` is the one of its row in the pivot's column.
 fn later_side<E: Enclosure>(

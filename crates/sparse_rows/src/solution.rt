@@ -11,11 +11,11 @@ ghost use Rattle.sparse_rows.specs.Sides.{later_entries, later_sides};
 ghost use Rattle.plain_elimination.specs.declared.limits.TheConstants.{MAX_SIZE};
 
 use crate::back::substitute_back;
-use crate::cells::{cell, cells_from, gaps_from, gaps_up_to};
+use crate::cells::{cell, gaps_from, gaps_up_to};
 use crate::reduction::reduce_column;
 use crate::sides::eliminate_sides;
 use complex_interval::{Enclosure, Rect};
-use plain_elimination::Failure;
+use plain_elimination::{Failure, cells_from};
 
 // The step of the right sides behind this column. The entries of the column still stand in the rows, whose step is done.
 fn solve_sides<E: Enclosure>(

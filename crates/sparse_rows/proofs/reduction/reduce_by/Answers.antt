@@ -2,7 +2,6 @@ use Rattle.std.proofs.Common.{◌≡◌, ◌+◌, ◌*◌, ◌-◌, length, drop
 use Rattle.std.proofs.lemmas.List.{length-drop}
 use Rattle.complex_interval.specs.Rect.{rectangle_of}
 use Rattle.sparse_rows.specs.Listed.{Skips, ZeroAt}
-use Rattle.sparse_rows.proofs.Columns.{resized}
 use Rattle.sparse_rows.proofs.reduction.reduce_by.Goals as goal
 
 pub eliminate_rows-requires-clause-rows_listed : goal.eliminate_rows-requires-clause-rows_listed
@@ -16,23 +15,20 @@ eliminate_rows-requires-clause-rows_listed g c =
 
 pub returns-in-Some-clause-zeros : goal.returns-in-Some-clause-zeros
 returns-in-Some-clause-zeros g c =
-    let rectangle = rectangle_of g.E.Enclosure.ends in
     let k = c.args.column in
     let tail : length c.cells_from.result.now ≡ length c.args.line.now - 1 = ap length c.cells_from.ensures ∙ length-drop 1 c.args.line.now in
     let width : k + 1 + length c.cells_from.result.now ≡ k + length c.args.line.now = omega arith in
-    resized _ _ (length c.cells_from.result.now) (length c.args.line.now - 1) (k + 1 + length c.cells_from.result.now) (k + length c.args.line.now) k _ _ (ap (map rectangle) c.cells_from.ensures) tail width c.eliminate_rows.ensures.zeros
+    rw (← c.cells_from.ensures, ← tail, ← width) c.eliminate_rows.ensures.zeros
 
 pub returns-in-None-clause-zeros : goal.returns-in-None-clause-zeros
 returns-in-None-clause-zeros g c =
-    let rectangle = rectangle_of g.E.Enclosure.ends in
     let k = c.args.column in
     let tail : length c.cells_from.result.now ≡ length c.args.line.now - 1 = ap length c.cells_from.ensures ∙ length-drop 1 c.args.line.now in
     let width : k + 1 + length c.cells_from.result.now ≡ k + length c.args.line.now = omega arith in
-    resized _ _ (length c.cells_from.result.now) (length c.args.line.now - 1) (k + 1 + length c.cells_from.result.now) (k + length c.args.line.now) k _ _ (ap (map rectangle) c.cells_from.ensures) tail width c.eliminate_rows.ensures.zeros
+    rw (← c.cells_from.ensures, ← tail, ← width) c.eliminate_rows.ensures.zeros
 
 pub returns-in-Some-clause-entries : goal.returns-in-Some-clause-entries
 returns-in-Some-clause-entries g c =
-    let rectangle = rectangle_of g.E.Enclosure.ends in
     let k = c.args.column in
     let tail : length c.cells_from.result.now ≡ length c.args.line.now - 1 = ap length c.cells_from.ensures ∙ length-drop 1 c.args.line.now in
     let width : k + 1 + length c.cells_from.result.now ≡ k + length c.args.line.now = omega arith in
@@ -40,7 +36,6 @@ returns-in-Some-clause-entries g c =
 
 pub returns-in-None-clause-entries : goal.returns-in-None-clause-entries
 returns-in-None-clause-entries g c =
-    let rectangle = rectangle_of g.E.Enclosure.ends in
     let k = c.args.column in
     let tail : length c.cells_from.result.now ≡ length c.args.line.now - 1 = ap length c.cells_from.ensures ∙ length-drop 1 c.args.line.now in
     let width : k + 1 + length c.cells_from.result.now ≡ k + length c.args.line.now = omega arith in

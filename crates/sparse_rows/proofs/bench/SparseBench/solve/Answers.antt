@@ -1,23 +1,18 @@
-use Rattle.std.proofs.Common.{◌≡◌, length, sym, ap, subst, ◌∙◌, map, arith}
+use Rattle.std.proofs.Common.{◌≡◌, length, ap, ◌∙◌, map, arith}
 use Rattle.std.specs.Vec.{with_items}
 use Rattle.std.proofs.lemmas.List.{length-map, with_items_is}
 use Rattle.complex_interval.specs.Rect.{rectangle_of}
 use Rattle.plain_elimination.specs.Elimination.{solve}
 use Rattle.plain_elimination.specs.Rectangles.{rectangles}
 use Rattle.plain_elimination.proofs.Answers.{solutions_held}
-use Rattle.sparse_rows.specs.Bench.{Places, Keeps}
-use Rattle.sparse_rows.proofs.Sources.{zero_source, rows_same}
+use Rattle.sparse_rows.proofs.Sources.{rows_same, zero_source}
 use Rattle.sparse_rows.proofs.bench.SparseBench.solve.Goals as goal
 
 pub solve_from-requires-clause-outside : goal.solve_from-requires-clause-outside
 solve_from-requires-clause-outside g c =
     let rectangle = rectangle_of g.E.Enclosure.ends in
-    let inside = c.self.inside in
-    let matrix = c.args.matrix.now in
-    let pattern : Places = record { size = inside.size; places = inside.places.items } in
-    let keeps : Keeps pattern matrix = subst (λ (p : Places). Keeps p matrix) (sym c.self.view_is) c.requires.outside in
-    let size : matrix.size ≡ inside.size = c.requires.size ∙ sym (ap (λ (p : Places). p.size) c.self.view_is) in
-    rw c.as_slice.ensures.value (zero_source pattern matrix inside.gaps.items _ _ (map rectangle c.cells.result.now) c.self.invariant size keeps c.cells.ensures.rows (length-map c.cells.result.now rectangle ∙ c.cells.ensures.square))
+    rw c.as_slice.ensures.value
+    (zero_source c.self.inside.size c.self.inside.places.items c.args.self.now c.args.matrix.now c.self.view_is c.requires.size _ _ _ (map rectangle c.cells.result.now) c.self.invariant c.requires.outside c.cells.ensures.rows (length-map c.cells.result.now rectangle ∙ c.cells.ensures.square))
 
 pub invariant_of-self : goal.invariant_of-self
 invariant_of-self g c =
@@ -42,10 +37,6 @@ invariant_of-self g c =
 
 pub returns-clause-held : goal.returns-clause-held
 returns-clause-held g c =
-    let rectangle = rectangle_of g.E.Enclosure.ends in
-    let inside = c.self.inside in
-    let matrix = c.args.matrix.now in
     let right = c.args.right.now in
-    let size : matrix.size ≡ inside.size = c.requires.size ∙ sym (ap (λ (p : Places). p.size) c.self.view_is) in
-    let rows = rows_same inside.size matrix.size (map rectangle c.cells.result.now) matrix.rows size c.cells.ensures.rows in
-    solutions_held g.E.Enclosure.SCALE matrix right c.solve_from.new.right c.solve_from.result c.requires.sizes (c.solve_from.ensures.stated ∙ ap (λ rs. solve (rectangles g.E.Enclosure.SCALE) rs right) rows)
+    let rows = rows_same c.self.inside.size c.self.inside.places.items c.args.self.now c.args.matrix.now c.self.view_is c.requires.size (map (rectangle_of g.E.Enclosure.ends) c.cells.result.now) c.cells.ensures.rows in
+    solutions_held g.E.Enclosure.SCALE c.args.matrix.now right c.solve_from.new.right c.solve_from.result c.requires.sizes (c.solve_from.ensures.stated ∙ ap (λ rs. solve (rectangles g.E.Enclosure.SCALE) rs right) rows)
