@@ -1,16 +1,17 @@
 // Texts and whole numbers as decimals.
+use crate::compare::expect;
 use fixed_decimal::{Decimal, DecimalFault};
-use std::process::Abort;
 
-fn assert_text(rt: &impl Abort, text: &str, wanted: Result<i64, DecimalFault>) {
-    assert!(rt; text.len() < 100);
-    let found = Decimal::parse(text).map(|decimal| decimal.millionths);
-    assert_eq!(rt; found, wanted, "{text}");
+fn read(text: &str) -> Option<Result<i64, DecimalFault>> {
+    if text.len() < 100 {
+        Some(Decimal::parse(text).map(|decimal| decimal.millionths))
+    } else {
+        None
+    }
 }
 
-fn assert_whole(rt: &impl Abort, value: i64, wanted: Result<i64, DecimalFault>) {
-    let found = Decimal::from_whole(value).map(|decimal| decimal.millionths);
-    assert_eq!(rt; found, wanted, "{value}");
+fn whole(value: i64) -> Result<i64, DecimalFault> {
+    Decimal::from_whole(value).map(|decimal| decimal.millionths)
 }
 
 #[test]
@@ -38,7 +39,7 @@ fn texts(rt: HostRuntime) {
             Err(DecimalFault::TooLarge),
         ),
     ] {
-        assert_text(&rt, text, wanted);
+        expect(&rt, read(text), Some(wanted), text);
     }
 }
 
@@ -50,6 +51,11 @@ fn whole_numbers(rt: HostRuntime) {
         (1_000_000, Err(DecimalFault::TooLarge)),
         (i64::MIN, Err(DecimalFault::TooLarge)),
     ] {
-        assert_whole(&rt, value, wanted);
+        expect(
+            &rt,
+            (value, whole(value)),
+            (value, wanted),
+            "a whole number",
+        );
     }
 }

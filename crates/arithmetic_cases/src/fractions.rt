@@ -1,8 +1,6 @@
 // Worked values of fractions and whole roots.
-ghost use Rattle.std.specs.Prelude.{◌≤◌};
-
+use crate::compare::expect;
 use exact_fraction::{Fraction, root_ceil, root_floor};
-use std::process::Abort;
 use std::test::Fail;
 
 const ABOVE: i128 = 1 << 120;
@@ -37,82 +35,94 @@ fn parts_are_bounded(rt: HostRuntime) -> Result<(), Fail> {
         (1, -1, false),
         (1, ABOVE, false),
     ] {
-        assert_eq!(rt; Fraction::new(num, den).is_some(), made, "{num}/{den}");
+        let found = Fraction::new(num, den).is_some();
+        expect(&rt, (num, den, found), (num, den, made), "a fraction");
     }
     Ok(())
 }
 
-fn assert_product(
-    rt: &impl Abort,
-    top: &[i64],
-    bottom: &[i64],
-    wanted: Option<(i128, i128)>,
-    label: &str,
-) {
-    assert_eq!(rt; parts(Fraction::product(top, bottom)), wanted, "{label}");
+// The product of the first so many of some numbers, over that of the first so many of others.
+fn product(
+    top: ([i64; 4], usize),
+    bottom: ([i64; 2], usize),
+) -> Result<Option<(i128, i128)>, Fail> {
+    let above = top.0.get(..top.1).ok_or("too many")?;
+    let below = bottom.0.get(..bottom.1).ok_or("too many")?;
+    Ok(parts(Fraction::product(above, below)))
 }
 
 #[test]
-fn multiplies_lists(rt: HostRuntime) {
+fn multiplies_lists(rt: HostRuntime) -> Result<(), Fail> {
     let half = HALF_ABOVE;
-    assert_product(&rt, &[2, 3], &[4], Some((6, 4)), "not reduced");
-    assert_product(&rt, &[], &[], Some((1, 1)), "of nothing");
-    assert_product(&rt, &[-7], &[-1, -1], Some((-7, 1)), "of signs");
-    let nought = [i64::MAX, i64::MAX, i64::MAX, 0];
-    assert_product(&rt, nought.as_slice(), &[5], Some((0, 5)), "nought");
-    let large = Some((1329227995784915871750885555673497600, 1));
-    assert_product(&rt, &[half, half - 1], &[1], large, "the largest");
-    assert_product(&rt, &[half, half], &[1], None, "too large");
-    assert_product(&rt, &[1], &[half, half], None, "too large below");
-    assert_product(&rt, &[1], &[0], None, "over nought");
-    assert_product(&rt, &[1], &[-1], None, "over a negative number");
-}
-
-fn assert_scaled(rt: &impl Abort, x: Fraction, scale: u32, wanted: (Option<i64>, Option<i64>))
-    requires { scale ≤ 48 }
-{
-    let found = (x.floor_scaled(scale), x.ceil_scaled(scale));
-    let (num, den) = (x.num, x.den);
-    assert_eq!(rt; found, wanted, "{num}/{den} at {scale}");
-}
-
-#[test]
-fn rounds_at_scale_40(rt: HostRuntime) -> Result<(), Fail> {
-    for (num, den, floor, ceil) in [
-        (1, 3, Some(366503875925), Some(366503875926)),
-        (-1, 3, Some(-366503875926), Some(-366503875925)),
-        (0, 7, Some(0), Some(0)),
-        (4194304, 1, Some(END), Some(END)),
-        (-4194304, 1, Some(-END), Some(-END)),
-        (4194305, 1, None, None),
-        (-4194305, 1, None, None),
+    let largest = Some((1329227995784915871750885555673497600, 1));
+    let greatest = i64::MAX;
+    for (label, top, tops, bottom, bottoms, wanted) in [
+        ("not reduced", [2, 3, 0, 0], 2, [4, 0], 1, Some((6, 4))),
+        ("of nothing", [0, 0, 0, 0], 0, [0, 0], 0, Some((1, 1))),
+        ("of signs", [-7, 0, 0, 0], 1, [-1, -1], 2, Some((-7, 1))),
         (
-            ABOVE - 1,
-            ABOVE - 1,
-            Some(1099511627776),
-            Some(1099511627776),
+            "nought",
+            [greatest, greatest, greatest, 0],
+            4,
+            [5, 0],
+            1,
+            Some((0, 5)),
         ),
-        (1, ABOVE - 1, Some(0), Some(1)),
+        ("the largest", [half, half - 1, 0, 0], 2, [1, 0], 1, largest),
+        ("too large", [half, half, 0, 0], 2, [1, 0], 1, None),
+        ("too large below", [1, 0, 0, 0], 1, [half, half], 2, None),
+        ("over nought", [1, 0, 0, 0], 1, [0, 0], 1, None),
+        ("over a negative number", [1, 0, 0, 0], 1, [-1, 0], 1, None),
     ] {
-        assert_scaled(&rt, fraction(num, den)?, 40, (floor, ceil));
+        expect(&rt, product((top, tops), (bottom, bottoms))?, wanted, label);
     }
     Ok(())
 }
 
+// The floor and the ceiling at a scale of at most 48.
+fn scaled(x: Fraction, scale: u32) -> Option<(Option<i64>, Option<i64>)> {
+    if scale <= 48 {
+        Some((x.floor_scaled(scale), x.ceil_scaled(scale)))
+    } else {
+        None
+    }
+}
+
+// At scale 40; and at scale 0, where one end alone may be out of range.
 #[test]
-fn one_end_may_be_out_of_range(rt: HostRuntime) -> Result<(), Fail> {
-    let above = fraction(2 * WIDE_END + 1, 2)?;
-    assert_scaled(&rt, above, 0, (Some(END), None));
-    let below = fraction(-2 * WIDE_END - 1, 2)?;
-    assert_scaled(&rt, below, 0, (None, Some(-END)));
+fn rounds_at_a_scale(rt: HostRuntime) -> Result<(), Fail> {
+    let one = Some(1099511627776);
+    for (num, den, scale, floor, ceil) in [
+        (1, 3, 40, Some(366503875925), Some(366503875926)),
+        (-1, 3, 40, Some(-366503875926), Some(-366503875925)),
+        (0, 7, 40, Some(0), Some(0)),
+        (4194304, 1, 40, Some(END), Some(END)),
+        (-4194304, 1, 40, Some(-END), Some(-END)),
+        (4194305, 1, 40, None, None),
+        (-4194305, 1, 40, None, None),
+        (ABOVE - 1, ABOVE - 1, 40, one, one),
+        (1, ABOVE - 1, 40, Some(0), Some(1)),
+        (2 * WIDE_END + 1, 2, 0, Some(END), None),
+        (-2 * WIDE_END - 1, 2, 0, None, Some(-END)),
+    ] {
+        let found = scaled(fraction(num, den)?, scale);
+        expect(
+            &rt,
+            (num, den, found),
+            (num, den, Some((floor, ceil))),
+            "scaled",
+        );
+    }
     Ok(())
 }
 
-fn assert_times(rt: &impl Abort, x: Fraction, k: u64, wanted: (Option<i128>, Option<i128>)) {
-    assert!(rt; 0 <= x.num);
-    let found = (x.floor_times(k, 1), x.ceil_times(k, 1));
-    let (num, den) = (x.num, x.den);
-    assert_eq!(rt; found, wanted, "{k} * {num}/{den} / 2");
+// The floor and the ceiling of k times half of a fraction that isn't negative.
+fn times(x: Fraction, k: u64) -> Option<(Option<i128>, Option<i128>)> {
+    if 0 <= x.num {
+        Some((x.floor_times(k, 1), x.ceil_times(k, 1)))
+    } else {
+        None
+    }
 }
 
 #[test]
@@ -133,9 +143,23 @@ fn multiplies_and_rounds(rt: HostRuntime) -> Result<(), Fail> {
             Some(9223372036854775808),
         ),
     ] {
-        assert_times(&rt, fraction(num, den)?, k, (floor, ceil));
+        let found = times(fraction(num, den)?, k);
+        expect(
+            &rt,
+            (k, num, den, found),
+            (k, num, den, Some((floor, ceil))),
+            "a half of it",
+        );
     }
     Ok(())
+}
+
+fn roots(n: u128) -> Option<(u64, u64)> {
+    if n <= u128::MAX / 2 {
+        Some((root_floor(n), root_ceil(n)))
+    } else {
+        None
+    }
 }
 
 #[test]
@@ -150,13 +174,12 @@ fn takes_roots(rt: HostRuntime) {
         (1 << 126, 9223372036854775808, 9223372036854775808),
         (u128::MAX / 2, 13043817825332782212, 13043817825332782213),
     ] {
-        assert!(rt; n <= u128::MAX / 2);
-        assert_eq!(rt; (root_floor(n), root_ceil(n)), (floor, ceil), "of {n}");
+        expect(&rt, (n, roots(n)), (n, Some((floor, ceil))), "the roots");
     }
 }
 
-fn assert_order(rt: &impl Abort, x: Fraction, y: Fraction, wanted: (bool, bool), label: &str) {
-    assert_eq!(rt; (x.at_most(y), y.at_most(x)), wanted, "{label}");
+fn order(x: Fraction, y: Fraction) -> (bool, bool) {
+    (x.at_most(y), y.at_most(x))
 }
 
 #[test]
@@ -186,8 +209,8 @@ fn orders_values(rt: HostRuntime) -> Result<(), Fail> {
             true,
         ),
     ] {
-        let (x, y) = (fraction(a, b)?, fraction(c, d)?);
-        assert_order(&rt, x, y, (at_most, at_least), label);
+        let found = order(fraction(a, b)?, fraction(c, d)?);
+        expect(&rt, found, (at_most, at_least), label);
     }
     Ok(())
 }

@@ -2,8 +2,12 @@
 #![tactic(auto)]
 
 #[cfg(test)]
+mod compare;
+#[cfg(test)]
 mod decimals;
 #[cfg(test)]
 mod fractions;
 #[cfg(test)]
 mod intervals;
+#[cfg(test)]
+mod rectangles;
