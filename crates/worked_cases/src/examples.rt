@@ -1,8 +1,6 @@
 // The studies of examples/, which a check after the gate compares with those files, and their reports, which another program
 // computed (tools/oracle).
-use crate::answers::{Answer, SCAN, assert_answer, shelf_with, strings};
-use harm_io::SteadySink;
-use harmscan_core::run;
+use crate::answers::{assert_long_report, assert_reports};
 use std::test::Fail;
 
 const SAFE: &str =
@@ -298,29 +296,13 @@ fn examples(rt: HostRuntime) -> Result<(), Fail> {
         (WORKS, WORKS_REPORT, 3),
         (LOCATE, LOCATE_REPORT, 3),
     ];
-    for (study, report, status) in cases {
-        let mut shelf = shelf_with(rt.alloc(), study.as_bytes())?;
-        let answer = Answer {
-            status,
-            out: report,
-            err: "",
-        };
-        assert_answer(&rt, rt.alloc(), &SCAN, &mut shelf, &answer)?;
-    }
-    Ok(())
+    assert_reports(&rt, rt.alloc(), &cases)
 }
 
 /// The report has 4416 lines, of which the first and the last ones are compared, and its length.
 #[test]
 fn the_plant(rt: HostRuntime) -> Result<(), Fail> {
-    let words = strings(rt.alloc(), &SCAN)?;
-    let mut shelf = shelf_with(rt.alloc(), PLANT.as_bytes())?;
-    let mut out = SteadySink::new(rt.alloc());
-    let mut err = SteadySink::new(rt.alloc());
-    assert_eq!(rt; run(rt.alloc(), &words, &mut shelf, &mut out, &mut err), 3);
-    let taken = out.taken();
-    assert_eq!(rt; taken.len(), 171062);
-    assert!(rt; taken.starts_with(PLANT_FRONT.as_bytes()));
-    assert!(rt; taken.ends_with(PLANT_END.as_bytes()));
+    let length = assert_long_report(&rt, rt.alloc(), PLANT, (PLANT_FRONT, PLANT_END), 3)?;
+    assert_eq!(rt; length, 171_062);
     Ok(())
 }

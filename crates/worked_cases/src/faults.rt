@@ -1,9 +1,11 @@
 // Words without a reading, and faults of files and of standard error, through the program.
-use crate::answers::{Answer, SCAN, assert_answer, shelf_with, strings};
+use crate::answers::{
+    Answer, SCAN, assert_answer, assert_status, assert_text, shelf_with, status_of,
+};
 use crate::refusing::RefusingSink;
 use crate::studies;
-use harm_io::{MemoryShelf, MemorySink, Sink, SteadySink};
-use harmscan_core::{run, run_collected};
+use harm_io::{MemoryShelf, MemorySink, Shelf, Sink, SteadySink};
+use harmscan_core::run_collected;
 use std::alloc::Global;
 use std::io;
 use std::process::Abort;
@@ -54,16 +56,26 @@ fn words_without_a_reading(rt: HostRuntime) -> Result<(), Fail> {
     Ok(())
 }
 
+/// The status where words could not be collected, for this cause.
+fn status_without_words<F: Shelf, O: Sink, E: Sink>(
+    alloc: Global,
+    cause: io::ErrorKind,
+    shelf: &mut F,
+    out: &mut O,
+    err: &mut E,
+) -> u8 {
+    run_collected(alloc, &Err(io::Error::from(cause)), shelf, out, err)
+}
+
 /// Words that could not be collected, for this cause.
 fn assert_uncollected(rt: &impl Abort, alloc: Global, cause: io::ErrorKind, answer: &Answer<'_>) {
     let mut shelf = MemoryShelf::new(alloc);
     let mut out = SteadySink::new(alloc);
     let mut err = SteadySink::new(alloc);
-    let words = Err(io::Error::from(cause));
-    let status = run_collected(alloc, &words, &mut shelf, &mut out, &mut err);
-    assert_eq!(rt; err.taken(), answer.err.as_bytes());
-    assert_eq!(rt; out.taken(), answer.out.as_bytes());
-    assert_eq!(rt; status, answer.status);
+    let status = status_without_words(alloc, cause, &mut shelf, &mut out, &mut err);
+    assert_text(rt, "standard error", err.taken(), answer.err.as_bytes());
+    assert_text(rt, "standard output", out.taken(), answer.out.as_bytes());
+    assert_status(rt, status, answer.status);
 }
 
 #[test]
@@ -105,7 +117,7 @@ fn files_at_the_limit(rt: HostRuntime) -> Result<(), Fail> {
 }
 
 /// Runs the words on a shelf with a file that is no document: whatever `err` does, the status stays and `out` takes nothing.
-fn assert_status<E: Sink>(
+fn assert_unheard<E: Sink>(
     rt: &impl Abort,
     alloc: Global,
     words: &[&str],
@@ -114,10 +126,24 @@ fn assert_status<E: Sink>(
 ) -> Result<(), Fail> {
     let mut shelf = shelf_with(alloc, b"[study")?;
     let mut out = SteadySink::new(alloc);
-    let answer = run(alloc, &strings(alloc, words)?, &mut shelf, &mut out, err);
-    assert_eq!(rt; answer, status);
-    assert_eq!(rt; out.taken(), b"".as_slice());
+    let found = status_of(alloc, words, &mut shelf, &mut out, err)?;
+    assert_status(rt, found, status);
+    assert_text(rt, "standard output", out.taken(), b"");
     Ok(())
+}
+
+/// The same where the first line on standard error fails after 8 bytes, and where memory is wanting for it.
+fn assert_both_unheard(
+    rt: &impl Abort,
+    alloc: Global,
+    words: &[&str],
+    status: u8,
+) -> Result<(), Fail> {
+    let mut failing = MemorySink::new(alloc);
+    failing.fail_call(1, 8)?;
+    assert_unheard(rt, alloc, words, &mut failing, status)?;
+    assert_text(rt, "standard error", failing.taken(), b"harmscan");
+    assert_unheard(rt, alloc, words, &mut RefusingSink::new(), status)
 }
 
 #[test]
@@ -128,11 +154,7 @@ fn standard_error_changes_no_status(rt: HostRuntime) -> Result<(), Fail> {
         (&["scan", "absent.toml"], 5),
     ];
     for (words, status) in cases {
-        let mut failing = MemorySink::new(rt.alloc());
-        failing.fail_call(1, 8)?;
-        assert_status(&rt, rt.alloc(), words, &mut failing, status)?;
-        assert_eq!(rt; failing.taken(), b"harmscan".as_slice());
-        assert_status(&rt, rt.alloc(), words, &mut RefusingSink::new(), status)?;
+        assert_both_unheard(&rt, rt.alloc(), words, status)?;
     }
     Ok(())
 }

@@ -1,9 +1,8 @@
 // Reports of which a line is not taken, through the program.
-use crate::answers::{SCAN, shelf_with, strings};
+use crate::answers::{SCAN, assert_status, assert_text, shelf_with, status_of};
 use crate::refusing::RefusingSink;
 use crate::studies;
 use harm_io::{MemoryShelf, MemorySink, SteadySink};
-use harmscan_core::run;
 use std::alloc::Global;
 use std::process::Abort;
 use std::test::Fail;
@@ -19,38 +18,65 @@ fn assert_taken(
     let mut out = MemorySink::new(alloc);
     out.fail_call(failing.0, failing.1)?;
     let mut err = SteadySink::new(alloc);
-    let status = run(alloc, &strings(alloc, &SCAN)?, shelf, &mut out, &mut err);
-    assert_eq!(rt; out.taken(), expected);
-    assert_eq!(rt; err.taken(), b"harmscan: cannot write report\n".as_slice());
-    assert_eq!(rt; status, 6);
+    let status = status_of(alloc, &SCAN, shelf, &mut out, &mut err)?;
+    assert_text(rt, "standard output", out.taken(), expected);
+    assert_text(
+        rt,
+        "standard error",
+        err.taken(),
+        b"harmscan: cannot write report\n",
+    );
+    assert_status(rt, status, 6);
     Ok(())
 }
 
-/// Each line is one put: where one fails, the lines before it and the front that it keeps were taken.
+/// The put of a line keeps nothing, a part or all of it and fails: the lines before it and that front were taken.
+fn assert_line(
+    rt: &impl Abort,
+    alloc: Global,
+    shelf: &mut MemoryShelf,
+    before: &[u8],
+    (call, line): (u32, &str),
+) -> Result<(), Fail> {
+    for kept in [0, 5, 300] {
+        let mut expected = Vec::from_slice(alloc, before)?;
+        let front = line.as_bytes().len().min(kept as usize);
+        expected.extend_from_slice(&line.as_bytes()[..front])?;
+        assert_taken(rt, alloc, shelf, (call, kept), &expected)?;
+    }
+    Ok(())
+}
+
+/// Each line is one put.
 #[test]
 fn each_put_that_fails(rt: HostRuntime) -> Result<(), Fail> {
     let mut shelf = shelf_with(rt.alloc(), studies::TWO_RESONANCES.as_bytes())?;
     let mut lines = Vec::new(rt.alloc());
     for (call, line) in studies::TWO_RESONANCES_LINES {
-        for kept in [0, 5, 300] {
-            let mut expected = lines.clone()?;
-            let front = line.as_bytes().len().min(kept as usize);
-            expected.extend_from_slice(&line.as_bytes()[..front])?;
-            assert_taken(&rt, rt.alloc(), &mut shelf, (call, kept), &expected)?;
-        }
+        assert_line(&rt, rt.alloc(), &mut shelf, &lines, (call, line))?;
         lines.extend_from_slice(line.as_bytes())?;
     }
-    assert_eq!(rt; lines.as_slice(), studies::TWO_RESONANCES_REPORT.as_bytes());
+    assert_text(
+        &rt,
+        "all lines",
+        &lines,
+        studies::TWO_RESONANCES_REPORT.as_bytes(),
+    );
     Ok(())
 }
 
 #[test]
 fn puts_that_lack_memory(rt: HostRuntime) -> Result<(), Fail> {
     let mut shelf = shelf_with(rt.alloc(), studies::TWO_RESONANCES.as_bytes())?;
-    let words = strings(rt.alloc(), &SCAN)?;
     let mut out = RefusingSink::new();
     let mut err = SteadySink::new(rt.alloc());
-    assert_eq!(rt; run(rt.alloc(), &words, &mut shelf, &mut out, &mut err), 7);
-    assert_eq!(rt; err.taken(), b"harmscan: out of memory\n".as_slice());
+    let status = status_of(rt.alloc(), &SCAN, &mut shelf, &mut out, &mut err)?;
+    assert_text(
+        &rt,
+        "standard error",
+        err.taken(),
+        b"harmscan: out of memory\n",
+    );
+    assert_status(&rt, status, 7);
     Ok(())
 }

@@ -1,8 +1,7 @@
 // Reports, through the program.
-use crate::answers::{Answer, SCAN, assert_answer, shelf_with, strings};
+use crate::answers::{Answer, SCAN, assert_answer, assert_long_report, assert_reports};
 use crate::{networks, studies};
-use harm_io::{SteadyShelf, SteadySink};
-use harmscan_core::run;
+use harm_io::SteadyShelf;
 use std::test::Fail;
 
 #[test]
@@ -66,27 +65,12 @@ fn reports_of_lines_transformers_and_filters(rt: HostRuntime) -> Result<(), Fail
         (networks::FULL, studies::NO_SCAN_REPORT, 0),
         (studies::TWO_RESONANCES, studies::TWO_RESONANCES_REPORT, 3),
     ];
-    for (study, report, status) in cases {
-        let mut shelf = shelf_with(rt.alloc(), study.as_bytes())?;
-        let answer = Answer {
-            status,
-            out: report,
-            err: "",
-        };
-        assert_answer(&rt, rt.alloc(), &SCAN, &mut shelf, &answer)?;
-    }
-    Ok(())
+    assert_reports(&rt, rt.alloc(), &cases)
 }
 
 #[test]
 fn an_industrial_plant(rt: HostRuntime) -> Result<(), Fail> {
-    let words = strings(rt.alloc(), &SCAN)?;
-    let mut shelf = shelf_with(rt.alloc(), networks::INDUSTRIAL.as_bytes())?;
-    let mut out = SteadySink::new(rt.alloc());
-    let mut err = SteadySink::new(rt.alloc());
-    assert_eq!(rt; run(rt.alloc(), &words, &mut shelf, &mut out, &mut err), 4);
-    let taken = out.taken();
-    assert!(rt; taken.starts_with(networks::INDUSTRIAL_FRONT.as_bytes()));
-    assert!(rt; taken.ends_with(networks::INDUSTRIAL_END.as_bytes()));
+    let ends = (networks::INDUSTRIAL_FRONT, networks::INDUSTRIAL_END);
+    assert_long_report(&rt, rt.alloc(), networks::INDUSTRIAL, ends, 4)?;
     Ok(())
 }
