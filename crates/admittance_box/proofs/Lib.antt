@@ -9,6 +9,7 @@ pub mod LivePairs
 pub mod MadeOrderings
 pub mod NodeLoops
 pub mod NodeOrderings
+pub mod InsidePattern
 pub mod OutsidePattern
 pub mod PairPlaces
 pub mod Ranges

@@ -3,7 +3,7 @@ use Rattle.std.specs.Prelude.{ℕ, List, [], ◌∷◌, ◌++◌, length, Option
 use Rattle.complex_interval.specs.Rectangles.{Rectangle}
 use Rattle.network_theory.specs.Branch.{Tap, Branch}
 use Rattle.network_theory.specs.Network.{Network}
-use Rattle.plain_elimination.specs.Pattern.{IsZeroOutside}
+use Rattle.plain_elimination.specs.Pattern.{AreInside, IsZeroOutside}
 use Rattle.plain_elimination.specs.declared.pattern.Spot.{Spot}
 use Rattle.admittance_box.specs.BoxMatrix.{box_matrix}
 use Rattle.admittance_box.specs.Places.{place_of, IsNodeOrdering}
@@ -35,9 +35,14 @@ ZeroOutside =
     (s : ℕ) (low high : Network) (ordering : List ℕ) (lo hi : ℕ) (rows : List (List Rectangle)) → box_matrix s low high ordering lo hi ≡ Ok rows
     → IsZeroOutside (branch_spots ordering low.branches) (record { size = length ordering; rows = rows })
 
--- so many live nodes, and the spots of the branches in their ordering
+-- a pattern of so many rows: the spots of the branches, all inside
+pub record IsPattern (ordering : List ℕ) (branches : List Branch) (size : ℕ) (places : List Spot) : Type 0 where
+  pub count : size ≡ length ordering
+  pub spots : places ≡ branch_spots ordering branches
+  pub inside : AreInside size places
+
+-- the pattern of a network that is driven at a live node
 pub record IsPatternOf (network : Network) (driven size : ℕ) (places : List Spot) : Type 0 where
   pub ordering : List ℕ
   pub ordered : IsNodeOrdering network driven ordering
-  pub count : size ≡ length ordering
-  pub spots : places ≡ branch_spots ordering network.branches
+  pub pattern : IsPattern ordering network.branches size places

@@ -10,6 +10,7 @@ ghost use Rattle.admittance_box.specs.Assembled.{Assembled, IsMade};
 ghost use Rattle.admittance_box.specs.BoxMatrix.{box_matrix};
 ghost use Rattle.admittance_box.specs.Filled.{FillsAs};
 ghost use Rattle.admittance_box.specs.HeldMatrix.{HasNoGroup, HoldsEach};
+ghost use Rattle.admittance_box.specs.Pattern.{IsPattern};
 ghost use Rattle.admittance_box.specs.declared.fill.Fill.TheVariants.{Filled};
 
 use crate::branches::branches_between;
@@ -18,10 +19,11 @@ use crate::fill::{Fill, add_branches};
 use crate::intervals::BranchIntervals;
 use crate::node_ordering::order_nodes;
 use crate::orders::order_range;
+use crate::spots::pattern_of;
 use crate::taps::find_place;
 use complex_interval::Enclosure;
 use net_branch::{Network, NodeId, live};
-use plain_elimination::Matrix;
+use plain_elimination::{Matrix, Pattern};
 use std::alloc::{AllocError, Global};
 use std::marker::Model;
 
@@ -104,6 +106,17 @@ impl<E: Enclosure> Assembly<E> {
         ensures place { IfSome result (λ place. slice_get self.now.ordering place ≡ Some node.number) }
     {
         find_place(self.ordering.as_slice(), node.number)
+    }
+
+    /// The pattern of the matrices: outside it each is exact zero.
+    pub fn pattern(&self, alloc: Global) -> Result<Pattern, AllocError>
+        ensures { IfOk result (λ p. IsPattern self.now.ordering self.now.low.branches p.size p.places.items) }
+    {
+        pattern_of(
+            alloc,
+            self.ordering.as_slice(),
+            self.low.branches.as_slice(),
+        )
     }
 
     /// Fills the matrix over the orders from `lo` to `hi`, in micro-orders: the nodal matrix in per

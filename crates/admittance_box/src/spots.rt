@@ -3,7 +3,7 @@ ghost use Rattle.std.specs.Prelude.{◌≡◌, ◌≤◌, ◌++◌, IfOk, length
 ghost use Rattle.network_theory.specs.Live.{Live};
 ghost use Rattle.net_branch.specs.Exact.{exact_branch, exact_network, exact_tap};
 ghost use Rattle.net_branch.specs.Whole.{IsWholeNetwork};
-ghost use Rattle.admittance_box.specs.Pattern.{ZeroOutside, spots_with, tap_spots, branch_spots, IsPatternOf};
+ghost use Rattle.admittance_box.specs.Pattern.{ZeroOutside, spots_with, tap_spots, branch_spots, IsPattern, IsPatternOf};
 ghost use Rattle.plain_elimination.specs.declared.limits.TheConstants.{MAX_SIZE};
 
 use crate::node_ordering::order_nodes;
@@ -61,6 +61,22 @@ fn spots_of(alloc: Global, ordering: &[u32], branches: &[Branch]) -> Result<Vec<
     Ok(spots)
 }
 
+/// The pattern of these branches: as many rows as nodes in the ordering, and the spots of each branch.
+pub fn pattern_of(
+    alloc: Global,
+    ordering: &[u32],
+    branches: &[Branch],
+) -> Result<Pattern, AllocError>
+    requires { length ordering.now ≤ MAX_SIZE }
+    ensures { IfOk result (λ p. IsPattern ordering.now (map exact_branch branches.now) p.size p.places.items) }
+{
+    let places = spots_of(alloc, ordering, branches)?;
+    Ok(Pattern {
+        size: ordering.len() as u32,
+        places,
+    })
+}
+
 /// The pattern of the matrix of a network that is driven at a live node: the number of live nodes, and for each branch of live
 /// nodes and each two of its taps the entry in the row of the one's node and the column of the other's. Each matrix that an
 /// assembly of the network, or of a pair from it on, fills is exact zero elsewhere.
@@ -71,11 +87,8 @@ pub fn pattern(alloc: Global, network: &Network, driven: NodeId) -> Result<Patte
 {
     let marks = live(alloc, network)?;
     let ordering = order_nodes(alloc, network, marks.as_slice(), driven.number)?;
-    let places = spots_of(alloc, ordering.as_slice(), network.branches.as_slice())?;
-    Ok(Pattern {
-        size: ordering.len() as u32,
-        places,
-    })
+    let pattern = pattern_of(alloc, ordering.as_slice(), network.branches.as_slice())?;
+    Ok(pattern)
 }
 
 /// The matrix of a box is exact zero outside the pattern's spots.

@@ -1,4 +1,5 @@
 pub mod Bands
+pub mod Benches
 pub mod Levels
 pub mod Splits
 pub mod Covering

@@ -1,9 +1,12 @@
 -- What a test of boxes is seen as, and what it keeps.
-use Rattle.std.specs.Prelude.{◌≡◌, ℕ, ℤ, ◌≤◌, List, length, Option}
+use Rattle.std.specs.Prelude.{◌≡◌, ℕ, ℤ, List, length, Option}
 use Rattle.exact_algebra.specs.Ratio.{Ratio}
 use Rattle.complex_interval.specs.Ends.{Ends, range_ends}
+use Rattle.network_theory.specs.Branch.{Branch}
 use Rattle.network_theory.specs.Network.{Network}
 use Rattle.plain_elimination.specs.Matrix.{Square}
+use Rattle.admittance_box.specs.Pattern.{IsPattern}
+use Rattle.sparse_rows.specs.Bench.{Places}
 use Rattle.band_subdivision.specs.Boxes.{BoxTest}
 use Rattle.band_subdivision.specs.IntervalTest.{AreScanLevels, clear_bound, above_bound}
 use Rattle.band_subdivision.specs.PairTest.{pair_test}
@@ -30,8 +33,8 @@ pub record AreBounds (scale : ℕ) (levels : ScanLevels) (to_clear to_name : Opt
   pub clear : to_clear ≡ clear_bound scale levels
   pub above : to_name ≡ above_bound scale levels
 
--- a matrix for the node ordering, and the interval of the extra susceptance
-pub record AreParts (scale : ℕ) (ordering : List ℕ) (matrix : Square) (extra : Ratio) (susceptance : Option Ends) : Type 0 where
+-- a matrix for the node ordering of these branches and a bench for its pattern, and the interval of the extra susceptance
+pub record AreParts (scale : ℕ) (ordering : List ℕ) (branches : List Branch) (matrix : Square) (bench : Places) (extra : Ratio) (susceptance : Option Ends) : Type 0 where
   pub size : matrix.size ≡ length ordering
-  pub some : 1 ≤ length ordering
+  pub pattern : IsPattern ordering branches bench.size bench.places
   pub is : susceptance ≡ range_ends scale extra extra

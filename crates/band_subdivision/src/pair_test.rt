@@ -4,6 +4,7 @@ ghost use Rattle.std.specs.Option.{option_map};
 ghost use Rattle.exact_fraction.specs.Fraction.{ratio_of};
 ghost use Rattle.complex_interval.specs.Rect.{rectangle_of};
 ghost use Rattle.complex_interval.specs.Ends.{range_ends};
+ghost use Rattle.admittance_box.specs.Pattern.{IsPattern};
 ghost use Rattle.band_subdivision.specs.Boxes.{IsTestable};
 ghost use Rattle.band_subdivision.specs.IntervalTest.{AreScanLevels};
 ghost use Rattle.band_subdivision.specs.PairTest.{with_extra, reduced_value, pair_value};
@@ -15,12 +16,14 @@ use crate::scan_spec::{ScanSpec, Tested};
 use admittance_box::{Assembly, Fill, order_range};
 use complex_interval::{Enclosure, Rect};
 use exact_fraction::Fraction;
-use plain_elimination::{Matrix, reduce_to_last};
+use plain_elimination::Matrix;
+use sparse_rows::SparseBench;
 use std::marker::Model;
 
 const NOTHING: Fraction = Fraction { num: 0, den: 1 };
 
-/// A test of boxes by the reduced admittance of the driven node. Both bounds are computed once, and a test works in one matrix.
+/// A test of boxes by the reduced admittance of the driven node. Both bounds are computed once, and a test works in one matrix and
+/// on one bench.
 #[derive(Drop)]
 pub struct PairTest<E: Enclosure> {
     spec: ScanSpec,
@@ -28,6 +31,7 @@ pub struct PairTest<E: Enclosure> {
     above_bound: Option<i64>,
     assembly: Assembly<E>,
     matrix: Matrix<E>,
+    bench: SparseBench<E>,
     extra: Fraction,
     susceptance: Option<E>,
 }
@@ -51,15 +55,20 @@ impl<E: Enclosure> Model for PairTest<E> {
     } };
 
     ghost invariant = { λ t. AreBounds E.SCALE (levels_of t.spec) t.clear_bound t.above_bound
-        × AreParts E.SCALE t.assembly.ordering t.matrix (ratio_of t.extra) (option_map E.ends t.susceptance) };
+        × AreParts E.SCALE t.assembly.ordering t.assembly.low.branches t.matrix t.bench (ratio_of t.extra) (option_map E.ends t.susceptance) };
 }
 
 impl<E: Enclosure> PairTest<E> {
     /// The test without an extra susceptance.
-    pub fn new(spec: ScanSpec, assembly: Assembly<E>, matrix: Matrix<E>) -> PairTest<E>
+    pub fn new(
+        spec: ScanSpec,
+        assembly: Assembly<E>,
+        matrix: Matrix<E>,
+        bench: SparseBench<E>,
+    ) -> PairTest<E>
         requires levels { AreScanLevels (levels_of spec) }
         requires size { matrix.size ≡ length assembly.ordering }
-        requires some { 1 ≤ length assembly.ordering }
+        requires pattern { IsPattern assembly.ordering assembly.low.branches bench.size bench.places }
         ensures { result ≡ record { spec = spec; low = assembly.low; high = assembly.high; driven = assembly.driven; ordering = assembly.ordering; extra = nothing } }
     {
         let levels = spec.levels();
@@ -72,6 +81,7 @@ impl<E: Enclosure> PairTest<E> {
             above_bound,
             assembly,
             matrix,
+            bench,
             extra: NOTHING,
             susceptance,
         }
@@ -98,7 +108,13 @@ impl<E: Enclosure> PairTest<E> {
         ensures value { option_map (rectangle_of E.ends) result ≡ pair_value E.SCALE self.old.low self.old.high self.old.ordering self.old.extra lo hi }
         ensures same { self.new ≡ self.old }
     {
-        match reduced(&mut self.assembly, &mut self.matrix, lo, hi) {
+        match reduced(
+            &mut self.assembly,
+            &mut self.matrix,
+            &mut self.bench,
+            lo,
+            hi,
+        ) {
             Some(y) => add_extra(y, self.susceptance, lo, hi),
             None => None,
         }
@@ -124,18 +140,20 @@ impl<E: Enclosure> PairTest<E> {
 fn reduced<E: Enclosure>(
     assembly: &mut Assembly<E>,
     matrix: &mut Matrix<E>,
+    bench: &mut SparseBench<E>,
     lo: u32,
     hi: u32,
 ) -> Option<Rect<E>>
     requires orders { IsTestable lo hi }
     requires size { matrix.old.size ≡ length assembly.old.ordering }
-    requires some { 1 ≤ length assembly.old.ordering }
+    requires pattern { IsPattern assembly.old.ordering assembly.old.low.branches bench.old.size bench.old.places }
     ensures value { option_map (rectangle_of E.ends) result ≡ reduced_value E.SCALE assembly.old.low assembly.old.high assembly.old.ordering lo hi }
     ensures assembly { assembly.new ≡ assembly.old }
     ensures size { matrix.new.size ≡ matrix.old.size }
+    ensures bench { bench.new ≡ bench.old }
 {
     match assembly.fill(lo, hi, matrix) {
-        Fill::Filled => match reduce_to_last(matrix) {
+        Fill::Filled => match bench.reduce(matrix) {
             Ok(y) => Some(y),
             Err(_) => None,
         },

@@ -7,6 +7,7 @@ ghost use Rattle.network_theory.specs.Live.{Live};
 ghost use Rattle.net_branch.specs.Exact.{exact_network};
 ghost use Rattle.net_branch.specs.Whole.{IsWholeNetwork};
 ghost use Rattle.admittance_box.specs.HeldMatrix.{CanAssemble, HasNoGroup};
+ghost use Rattle.admittance_box.specs.Pattern.{IsPattern};
 ghost use Rattle.band_subdivision.specs.Cover.{span_of};
 ghost use Rattle.band_subdivision.specs.PairTruth.{IsClearForEach, IsAboveForEach, IsTrueForEach};
 ghost use Rattle.band_subdivision.specs.Scan.{IsScanOf, test_of, whole_list};
@@ -22,6 +23,7 @@ use exact_fraction::Fraction;
 use net_branch::{Network, NodeId};
 use plain_elimination::Matrix;
 use scan_report::BoxRow;
+use sparse_rows::SparseBench;
 use std::alloc::{AllocError, Global};
 use std::marker::Model;
 
@@ -54,16 +56,22 @@ impl<E: Enclosure> Model for Scan<E> {
     ghost invariant = { λ s. IsScan s.test s.stack };
 }
 
-/// A scan with this assembly and this matrix, which has its whole band before it.
-fn scan_by<E: Enclosure>(spec: ScanSpec, assembly: Assembly<E>, matrix: Matrix<E>) -> Scan<E>
+/// A scan with this assembly, this matrix and this bench, which has its whole band before it.
+fn scan_by<E: Enclosure>(
+    spec: ScanSpec,
+    assembly: Assembly<E>,
+    matrix: Matrix<E>,
+    bench: SparseBench<E>,
+) -> Scan<E>
     requires spec { IsScanSpec spec }
     requires ready { CanAssemble assembly.low assembly.high assembly.driven assembly.ordering }
     requires size { matrix.size ≡ length assembly.ordering }
+    requires pattern { IsPattern assembly.ordering assembly.low.branches bench.size bench.places }
     ensures { IsScanOf E.SCALE assembly.low assembly.high assembly.driven spec result }
 {
     let stack = Stack::new(spec.from, spec.to);
     Scan {
-        test: PairTest::new(spec, assembly, matrix),
+        test: PairTest::new(spec, assembly, matrix, bench),
         stack,
     }
 }
@@ -89,7 +97,8 @@ impl<E: Enclosure> Scan<E> {
     {
         let assembly = Assembly::between(alloc, low, high, driven)?;
         let matrix = Matrix::new(alloc, assembly.size())?;
-        Ok(scan_by(spec, assembly, matrix))
+        let bench = SparseBench::new(alloc, &assembly.pattern(alloc)?)?;
+        Ok(scan_by(spec, assembly, matrix, bench))
     }
 
     /// The scan of a network: the one between it and itself.

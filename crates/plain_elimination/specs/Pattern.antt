@@ -4,6 +4,10 @@ use Rattle.std.specs.List.{All}
 use Rattle.plain_elimination.specs.Matrix.{Square, entry, nought_rectangle}
 use Rattle.plain_elimination.specs.declared.pattern.Spot.{Spot}
 
+-- each of the places is in the square
+abbrev pub AreInside : ℕ → List Spot → Type 0
+AreInside size places = All (λ s. (s.row < size) × (s.column < size)) places
+
 -- none of the places is in this row and this column
 abbrev pub IsNoPlace : List Spot → ℕ → ℕ → Type 0
 IsNoPlace places row column = All (λ s. s.row ≡ row → s.column ≡ column → ⊥) places

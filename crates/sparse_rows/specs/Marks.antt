@@ -28,10 +28,6 @@ PassesOn size marks k =
 abbrev pub Covers : ℕ → List Spot → List Bool → Type 0
 Covers size places marks = All (λ s. IsMarked marks (s.row * size + s.column)) places
 
--- each of the places is in the square
-abbrev pub AreInside : ℕ → List Spot → Type 0
-AreInside size places = All (λ s. (s.row < size) × (s.column < size)) places
-
 -- the places, the diagonal and all fill are marked: with two places of a row behind the diagonal the one where the row of the first meets the column of the second
 pub record IsFilled (size : ℕ) (places : List Spot) (marks : List Bool) : Type 0 where
   pub square : length marks ≡ size * size

@@ -4,10 +4,10 @@ ghost use Rattle.complex_interval.specs.Rect.{rectangle_of};
 ghost use Rattle.plain_elimination.specs.Elimination.{bind, reduce, solve};
 ghost use Rattle.plain_elimination.specs.Layout.{rows_of};
 ghost use Rattle.plain_elimination.specs.Matrix.{HoldsComplements, HoldsSolutions};
+ghost use Rattle.plain_elimination.specs.Pattern.{AreInside};
 ghost use Rattle.plain_elimination.specs.Rectangles.{rectangles, reduce_rectangles, solve_rectangles};
 ghost use Rattle.sparse_rows.specs.Bench.{Keeps};
 ghost use Rattle.sparse_rows.specs.Listed.{ZeroOutside, IsFill};
-ghost use Rattle.sparse_rows.specs.Marks.{AreInside};
 ghost use Rattle.plain_elimination.specs.declared.limits.TheConstants.{MAX_SIZE};
 
 use crate::fill::marks_of;

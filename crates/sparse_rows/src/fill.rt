@@ -1,7 +1,8 @@
 // The symbolic fill of the elimination order. Each row passes its marked places on to the row of the first of them: with that all
 // fill of all rows is marked, as an elimination tree gives it.
 ghost use Rattle.std.specs.Prelude.{◌≡◌, ℕ, ◌+◌, ◌*◌, ◌<◌, ◌≤◌, IfOk, false, get_or, length, replicate};
-ghost use Rattle.sparse_rows.specs.Marks.{IsMarked, Grown, PassesOn, Covers, AreInside, IsFilled};
+ghost use Rattle.plain_elimination.specs.Pattern.{AreInside};
+ghost use Rattle.sparse_rows.specs.Marks.{IsMarked, Grown, PassesOn, Covers, IsFilled};
 ghost use Rattle.plain_elimination.specs.declared.limits.TheConstants.{MAX_SIZE};
 
 use plain_elimination::Spot;
