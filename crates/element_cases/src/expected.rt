@@ -3,7 +3,7 @@ ghost use Rattle.std.specs.Prelude.{IfOk};
 ghost use Rattle.study_model.specs.Lawful.{IsLawful};
 
 use exact_fraction::Fraction;
-use net_branch::{Branch, Law, Network};
+use net_branch::{Branch, Law, Network, Tap};
 use sequence_network::build_sequence;
 use std::alloc::Global;
 use std::process::Abort;
@@ -17,6 +17,19 @@ const BUSES: &str =
 /// A fraction n/d, not reduced.
 pub type Value = (i64, i64);
 
+/// A branch that a case wants.
+#[derive(Clone, Copy)]
+pub enum Wanted {
+    /// A Series from a node to ground, of the first element: r, k, m, x and xc.
+    ToGround(u32, [Value; 5]),
+    /// A Series between two nodes, of the first element.
+    Between(u32, u32, [Value; 5]),
+    /// A Shunt from a node to ground, of the first element: b.
+    Shunt(u32, Value),
+    /// Any other.
+    Other(Parts),
+}
+
 /// The law of a branch: r, k, m, x and xc of a Series, or b of a Shunt.
 #[derive(Clone, Copy)]
 pub enum Values {
@@ -24,9 +37,9 @@ pub enum Values {
     Shunt(Value),
 }
 
-/// A branch by its first tap, the node of its second tap of ratio -1 where it has one, and its law.
+/// A branch by its first tap, the node of its second tap of ratio -1 where it has one, its law, and the number of its element.
 #[derive(Clone, Copy)]
-pub struct Wanted {
+pub struct Parts {
     pub first: (u32, Value),
     pub second: Option<u32>,
     pub values: Values,
@@ -43,33 +56,20 @@ pub struct Case<'a> {
     pub branches: &'a [Wanted],
 }
 
-/// A Series from a node to ground, of the first element.
-pub fn to_ground(node: u32, values: [Value; 5]) -> Wanted {
-    Wanted {
-        first: (node, (1, 1)),
-        second: None,
-        values: Values::Series(values),
-        owner: 1,
-    }
-}
-
-/// A Series between two nodes, of the first element.
-pub fn between(first: u32, second: u32, values: [Value; 5]) -> Wanted {
-    Wanted {
-        first: (first, (1, 1)),
-        second: Some(second),
-        values: Values::Series(values),
-        owner: 1,
-    }
-}
-
-/// A Shunt from a node to ground, of the first element.
-pub fn shunt(node: u32, b: Value) -> Wanted {
-    Wanted {
-        first: (node, (1, 1)),
-        second: None,
-        values: Values::Shunt(b),
-        owner: 1,
+impl Wanted {
+    fn parts(self) -> Parts {
+        let (node, second, values) = match self {
+            Wanted::ToGround(node, values) => (node, None, Values::Series(values)),
+            Wanted::Between(node, second, values) => (node, Some(second), Values::Series(values)),
+            Wanted::Shunt(node, b) => (node, None, Values::Shunt(b)),
+            Wanted::Other(parts) => return parts,
+        };
+        Parts {
+            first: (node, (1, 1)),
+            second,
+            values,
+            owner: 1,
+        }
     }
 }
 
@@ -82,64 +82,53 @@ pub fn study_with(alloc: Global, entries: &str) -> Result<Study, Fail>
     Ok(read_study(alloc, text.as_bytes())?)
 }
 
-fn is_value(value: Fraction, (n, d): Value) -> Result<bool, Fail> {
-    let wanted = Fraction::new(i128::from(n), i128::from(d)).ok_or("no fraction")?;
-    let below = value.at_most(wanted);
-    let above = wanted.at_most(value);
-    Ok(below && above)
-}
-
-pub fn assert_value(
-    rt: &impl Abort,
-    label: &str,
-    found: Fraction,
-    wanted: Value,
-) -> Result<(), Fail> {
-    let same = is_value(found, wanted)?;
-    assert!(rt; same, "{label}");
-    Ok(())
-}
-
-fn are_values(found: [Fraction; 5], wanted: [Value; 5]) -> Result<bool, Fail> {
-    let mut same = true;
-    for (value, wanted) in found.iter().zip(wanted.iter()) {
-        let equal = is_value(*value, *wanted)?;
-        same = same && equal;
+fn is_value(value: Fraction, (n, d): Value) -> bool {
+    match Fraction::new(i128::from(n), i128::from(d)) {
+        Some(wanted) => value.at_most(wanted) && wanted.at_most(value),
+        None => false,
     }
-    Ok(same)
 }
 
-fn is_law(law: Law, wanted: Values) -> Result<bool, Fail> {
+pub fn assert_value(rt: &impl Abort, label: &str, found: Fraction, wanted: Value) {
+    assert!(rt; is_value(found, wanted), "{label}");
+}
+
+fn are_values(found: [Fraction; 5], wanted: [Value; 5]) -> bool {
+    for (value, wanted) in found.iter().zip(wanted.iter()) {
+        if !is_value(*value, *wanted) {
+            return false;
+        }
+    }
+    true
+}
+
+fn is_law(law: Law, wanted: Values) -> bool {
     match (law, wanted) {
         (Law::Series { r, k, m, x, xc }, Values::Series(values)) => {
             are_values([r, k, m, x, xc], values)
         }
         (Law::Shunt { b }, Values::Shunt(value)) => is_value(b, value),
-        _ => Ok(false),
+        _ => false,
     }
 }
 
-fn is_tap(branch: &Branch, at: usize, node: u32, ratio: Value) -> Result<bool, Fail> {
-    let tap = branch.taps.get(at).ok_or("no tap")?;
-    let equal = is_value(tap.ratio, ratio)?;
-    Ok(equal && tap.node.number == node)
+fn is_tap(tap: &Tap, node: u32, ratio: Value) -> bool {
+    tap.node.number == node && is_value(tap.ratio, ratio)
 }
 
-fn has_taps(branch: &Branch, wanted: Wanted) -> Result<bool, Fail> {
-    let first = is_tap(branch, 0, wanted.first.0, wanted.first.1)?;
-    match wanted.second {
-        Some(node) => {
-            let second = is_tap(branch, 1, node, (-1, 1))?;
-            Ok(first && second && branch.taps.len() == 2)
-        }
-        None => Ok(first && branch.taps.len() == 1),
+fn are_taps(taps: &[Tap], (node, ratio): (u32, Value), second: Option<u32>) -> bool {
+    match (taps, second) {
+        ([tap], None) => is_tap(tap, node, ratio),
+        ([tap, other], Some(second)) => is_tap(tap, node, ratio) && is_tap(other, second, (-1, 1)),
+        _ => false,
     }
 }
 
-fn is_branch(branch: &Branch, wanted: Wanted) -> Result<bool, Fail> {
-    let taps = has_taps(branch, wanted)?;
-    let law = is_law(branch.law, wanted.values)?;
-    Ok(taps && law && branch.group == 0 && branch.owner == wanted.owner)
+fn is_branch(branch: &Branch, wanted: Parts) -> bool {
+    branch.group == 0
+        && branch.owner == wanted.owner
+        && are_taps(branch.taps.as_slice(), wanted.first, wanted.second)
+        && is_law(branch.law, wanted.values)
 }
 
 /// Compares a network's nodes and branches.
@@ -149,25 +138,29 @@ pub fn assert_network(
     network: &Network,
     nodes: u32,
     wanted: &[Wanted],
-) -> Result<(), Fail> {
-    assert_eq!(rt; network.nodes, nodes, "{label}: nodes");
-    assert_eq!(rt; network.branches.len(), wanted.len(), "{label}: branches");
-    for (at, wanted) in wanted.iter().enumerate() {
-        let branch = network.branches.get(at).ok_or("no branch")?;
-        let same = is_branch(branch, *wanted)?;
-        assert!(rt; same, "{label}: branch {at}");
+) {
+    let found = (network.nodes, network.branches.len());
+    assert_eq!(rt; found, (nodes, wanted.len()), "{label}: nodes and branches");
+    let pairs = network.branches.as_slice().iter().zip(wanted.iter());
+    for (at, (branch, wanted)) in pairs.enumerate() {
+        assert!(rt; is_branch(branch, wanted.parts()), "{label}: branch {at}");
     }
-    Ok(())
 }
 
-/// Compares the network of each case's elements, which stand beside the two buses.
+/// The network of these entries beside the two buses. It has no contract, so that no case is proved under what is proved of a network.
+pub fn network_with(alloc: Global, entries: &str, sequence: Sequence) -> Result<Network, Fail> {
+    let study = study_with(alloc, entries)?;
+    match build_sequence(alloc, &study, sequence) {
+        Ok(network) => Ok(network),
+        Err(_) => Err("refused".into()),
+    }
+}
+
+/// Compares the network of each case's elements.
 pub fn assert_cases(rt: &impl Abort, alloc: Global, cases: &[Case<'_>]) -> Result<(), Fail> {
     for case in cases {
-        let study = study_with(alloc, case.elements)?;
-        let Ok(network) = build_sequence(alloc, &study, case.sequence) else {
-            return Err("refused".into());
-        };
-        assert_network(rt, case.label, &network, case.nodes, case.branches)?;
+        let network = network_with(alloc, case.elements, case.sequence)?;
+        assert_network(rt, case.label, &network, case.nodes, case.branches);
     }
     Ok(())
 }

@@ -1,22 +1,19 @@
 // Filters of 4 MVAr tuned to order 5: the capacitor is 25.
-use crate::expected::{Case, Value, assert_cases, between, to_ground};
+use crate::expected::{Case, Wanted, assert_cases};
 use std::test::Fail;
 use study_model::Sequence;
 
-fn resonant(r: Value, x: Value, xc: Value) -> [Value; 5] {
-    [r, (0, 1), (1, 1), x, xc]
-}
+const CAPACITOR: Wanted = Wanted::Between(0, 2, [(0, 1), (0, 1), (1, 1), (0, 1), (25, 1)]);
 
 #[test]
 fn a_filter_is_sized_by_its_capacitor(rt: HostRuntime) -> Result<(), Fail> {
-    let capacitor = between(0, 2, resonant((0, 1), (0, 1), (25, 1)));
     let cases = [
         Case {
             label: "single of quality 50: x is 25/25, r is 25/(5·50)",
             elements: "filter = [{ name = \"F1\", bus = \"B1\", kind = \"single\", q = 4, order = 5, quality = 50 }]",
             sequence: Sequence::Positive,
             nodes: 2,
-            branches: &[to_ground(0, resonant((1, 10), (1, 1), (25, 1)))],
+            branches: &[Wanted::ToGround(0, [(1, 10), (0, 1), (1, 1), (1, 1), (25, 1)])],
         },
         Case {
             label: "ctype of quality 2: n² - 1 is 24, r is 2·5·25/24, x and its capacitor 25/24",
@@ -24,9 +21,9 @@ fn a_filter_is_sized_by_its_capacitor(rt: HostRuntime) -> Result<(), Fail> {
             sequence: Sequence::Zero,
             nodes: 3,
             branches: &[
-                capacitor,
-                to_ground(2, resonant((125, 12), (0, 1), (0, 1))),
-                to_ground(2, resonant((0, 1), (25, 24), (25, 24))),
+                CAPACITOR,
+                Wanted::ToGround(2, [(125, 12), (0, 1), (1, 1), (0, 1), (0, 1)]),
+                Wanted::ToGround(2, [(0, 1), (0, 1), (1, 1), (25, 24), (25, 24)]),
             ],
         },
         Case {
@@ -35,9 +32,9 @@ fn a_filter_is_sized_by_its_capacitor(rt: HostRuntime) -> Result<(), Fail> {
             sequence: Sequence::Positive,
             nodes: 3,
             branches: &[
-                capacitor,
-                to_ground(2, resonant((10, 1), (0, 1), (0, 1))),
-                to_ground(2, resonant((0, 1), (1, 1), (0, 1))),
+                CAPACITOR,
+                Wanted::ToGround(2, [(10, 1), (0, 1), (1, 1), (0, 1), (0, 1)]),
+                Wanted::ToGround(2, [(0, 1), (0, 1), (1, 1), (1, 1), (0, 1)]),
             ],
         },
         Case {

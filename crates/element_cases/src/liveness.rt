@@ -1,8 +1,7 @@
 // The numbers of elements, and whether buses are live.
-use crate::expected::{Case, Values, Wanted, assert_cases, study_with, to_ground};
+use crate::expected::{Parts, Value, Values, Wanted, assert_network, network_with, study_with};
 use sequence_network::check_live;
 use std::alloc::Global;
-use std::process::Abort;
 use std::test::Fail;
 use study_model::{Key, Place, Section, Sequence, StudyFault};
 
@@ -15,62 +14,50 @@ line = [{ name = "L1", from = "B1", to = "B2", r = 1, x = 1 }]
 source = [{ name = "S1", bus = "B1", r = 0, x = 1 }, { name = "S2", bus = "B2", r = 0, x = 1 }]
 "#;
 
-fn numbered(owner: u32, first: u32, second: Option<u32>, values: Values) -> Wanted {
-    Wanted {
-        first: (first, (1, 1)),
-        second,
-        values,
-        owner,
-    }
-}
+const ONE: [Value; 5] = [(0, 1), (0, 1), (1, 1), (1, 1), (0, 1)];
 
+const BOTH: [Value; 5] = [(1, 1), (0, 1), (1, 1), (1, 1), (0, 1)];
+
+const LOAD: [Value; 5] = [(3, 1), (0, 1), (1, 1), (4, 1), (0, 1)];
+
+const FILTER: [Value; 5] = [(1, 10), (0, 1), (1, 1), (1, 1), (25, 1)];
+
+/// Each branch: its element, its first node, its second one, and its law.
+const NUMBERED: [(u32, u32, Option<u32>, Values); 7] = [
+    (1, 0, None, Values::Series(ONE)),
+    (2, 1, None, Values::Series(ONE)),
+    (3, 0, Some(1), Values::Series(BOTH)),
+    (4, 0, Some(1), Values::Series(ONE)),
+    (5, 0, None, Values::Series(LOAD)),
+    (6, 1, None, Values::Shunt((4, 100))),
+    (7, 1, None, Values::Series(FILTER)),
+];
+
+// Sources, lines, transformers, loads, banks, filters.
 #[test]
 fn elements_stand_in_the_order_of_their_numbers(rt: HostRuntime) -> Result<(), Fail> {
-    let one = Values::Series([(0, 1), (0, 1), (1, 1), (1, 1), (0, 1)]);
-    let both = Values::Series([(1, 1), (0, 1), (1, 1), (1, 1), (0, 1)]);
-    let load = Values::Series([(3, 1), (0, 1), (1, 1), (4, 1), (0, 1)]);
-    let filter = Values::Series([(1, 10), (0, 1), (1, 1), (1, 1), (25, 1)]);
-    let cases = [Case {
-        label: "sources, lines, transformers, loads, banks, filters",
-        elements: EVERY,
-        sequence: Sequence::Positive,
-        nodes: 2,
-        branches: &[
-            numbered(1, 0, None, one),
-            numbered(2, 1, None, one),
-            numbered(3, 0, Some(1), both),
-            numbered(4, 0, Some(1), one),
-            numbered(5, 0, None, load),
-            numbered(6, 1, None, Values::Shunt((4, 100))),
-            numbered(7, 1, None, filter),
-        ],
-    }];
-    assert_cases(&rt, rt.alloc(), &cases)
+    let mut wanted = Vec::new(rt.alloc());
+    for (owner, node, second, values) in NUMBERED {
+        wanted.push(Wanted::Other(Parts {
+            first: (node, (1, 1)),
+            second,
+            values,
+            owner,
+        }))?;
+    }
+    let network = network_with(rt.alloc(), EVERY, Sequence::Positive)?;
+    assert_network(&rt, "every element", &network, 2, &wanted);
+    Ok(())
 }
 
-fn floating(section: Section, entry: u32, key: Key) -> Result<(), StudyFault> {
-    Err(StudyFault::Floating(Place {
-        section,
-        entry,
-        key,
-    }))
-}
-
-fn assert_live(
-    rt: &impl Abort,
-    alloc: Global,
-    label: &str,
-    entries: &[&str],
-    wanted: Result<(), StudyFault>,
-) -> Result<(), Fail> {
+/// Whether the networks of a study are live. It has no contract, so that no case is proved under what is proved of the answer.
+fn live(alloc: Global, entries: &[&str; 3]) -> Result<Result<(), StudyFault>, Fail> {
     let mut text = String::new(alloc);
     for entry in entries {
         text.push_str(entry)?;
     }
     let study = study_with(alloc, text.as_str())?;
-    let found = check_live(alloc, &study);
-    assert!(rt; found == wanted, "{label}");
-    Ok(())
+    Ok(check_live(alloc, &study))
 }
 
 const OPEN_SOURCE: &str = "source = [{ name = \"S1\", bus = \"B1\", r = 0, x = 1 }]\n";
@@ -87,37 +74,43 @@ const POSITIVE_SCAN: &str =
 const ZERO_SCANS: &str =
     "scan = [{ name = \"s1\", bus = \"B1\", from = 1, to = 10, threshold = 1, finest = 1 }, { name = \"s2\", bus = \"B1\", network = \"zero\", from = 1, to = 10, threshold = 1, finest = 1 }]\n";
 
+const DEAD_BUS: Result<(), StudyFault> = Err(StudyFault::Floating(Place {
+    section: Section::Bus,
+    entry: 2,
+    key: Key::Nothing,
+}));
+
+const DEAD_SCAN: Result<(), StudyFault> = Err(StudyFault::Floating(Place {
+    section: Section::Scan,
+    entry: 2,
+    key: Key::Bus,
+}));
+
 // A source that is open in the zero network leaves its bus dead there; a dead bus comes before a dead scan.
 #[test]
 fn buses_and_zero_scans_have_to_be_live(rt: HostRuntime) -> Result<(), Fail> {
-    let alloc = rt.alloc();
-    let dead_bus = floating(Section::Bus, 2, Key::Nothing);
-    let dead_scan = floating(Section::Scan, 2, Key::Bus);
     let cases = [
         (
             "both live",
             [OPEN_SOURCE, SECOND_BANK, POSITIVE_SCAN],
             Ok(()),
         ),
-        ("a dead bus", [SOURCE, FIRST_BANK, ZERO_SCANS], dead_bus),
+        ("a dead bus", [SOURCE, FIRST_BANK, ZERO_SCANS], DEAD_BUS),
         (
             "a dead zero scan",
             [OPEN_SOURCE, SECOND_BANK, ZERO_SCANS],
-            dead_scan,
+            DEAD_SCAN,
         ),
         (
             "a live zero scan",
             [SOURCE, SECOND_BANK, ZERO_SCANS],
             Ok(()),
         ),
-        (
-            "both dead",
-            [OPEN_SOURCE, "", ZERO_SCANS],
-            floating(Section::Bus, 2, Key::Nothing),
-        ),
+        ("both dead", [OPEN_SOURCE, "", ZERO_SCANS], DEAD_BUS),
     ];
     for (label, entries, wanted) in cases {
-        assert_live(&rt, alloc, label, &entries, wanted)?;
+        let found = live(rt.alloc(), &entries)?;
+        assert!(rt; found == wanted, "{label}");
     }
     Ok(())
 }

@@ -1,12 +1,12 @@
 // Values in per unit worked by hand, for a base of 100 MVA: 4 ohms at 33 kV are 400/1089; a rating of 4 is 25 as an impedance and 0.04 as a
 // susceptance; 4 microsiemens at 33 kV are 0.00004356; 4 percent on 33 MVA are 4/33.
-use crate::expected::assert_value;
+use crate::expected::{Value, assert_value};
 use element_parts::{
     as_written, impedance, impedance_of_rating, impedance_share, inverse_ratio, percent,
     susceptance_of_rating, susceptance_share, triple_impedance, zero,
 };
+use exact_fraction::Fraction;
 use fixed_decimal::Decimal;
-use std::test::Fail;
 
 const BASE: Decimal = Decimal {
     millionths: 100_000_000,
@@ -20,9 +20,9 @@ const FOUR: Decimal = Decimal {
     millionths: 4_000_000,
 };
 
-#[test]
-fn values_in_per_unit(rt: HostRuntime) -> Result<(), Fail> {
-    let cases = [
+/// Each value with its label and what it is worth. It has no contract, so that no case is proved under what is proved of them.
+fn found() -> [(&'static str, Fraction, Value); 10] {
+    [
         ("as written", as_written(FOUR), (4, 1)),
         ("zero", zero(), (0, 1)),
         ("impedance", impedance(FOUR, BASE, KV33), (400, 1_089)),
@@ -53,9 +53,12 @@ fn values_in_per_unit(rt: HostRuntime) -> Result<(), Fail> {
         ),
         ("percent", percent(FOUR, BASE, KV33), (4, 33)),
         ("inverse ratio", inverse_ratio(FOUR), (1, 4)),
-    ];
-    for (label, found, wanted) in cases {
-        assert_value(&rt, label, found, wanted)?;
+    ]
+}
+
+#[test]
+fn values_in_per_unit(rt: HostRuntime) {
+    for (label, found, wanted) in found() {
+        assert_value(&rt, label, found, wanted);
     }
-    Ok(())
 }

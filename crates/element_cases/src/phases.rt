@@ -3,11 +3,11 @@ ghost use Rattle.std.specs.Prelude.{◌≡◌, length, IfOk};
 ghost use Rattle.study_model.specs.Lawful.{IsName, IsLawful};
 ghost use Rattle.study_model.specs.declared.words.StudyModel.TheVariants as study_model;
 
-use crate::expected::{assert_network, between, shunt, to_ground};
-use crate::loads::{beside, motor};
+use crate::expected::{Wanted, assert_network};
+use crate::loads::{BESIDE, MOTOR};
 use fixed_decimal::Decimal;
 use load_filter_model::{add_bank, add_filter, add_load};
-use net_branch::new_network;
+use net_branch::{Network, new_network};
 use sqlite_items::Items;
 use std::alloc::Global;
 use std::test::Fail;
@@ -68,9 +68,7 @@ fn study(alloc: Global) -> Result<Study, Fail>
     })
 }
 
-#[test]
-fn a_load_with_a_phase(rt: HostRuntime) -> Result<(), Fail> {
-    let alloc = rt.alloc();
+fn network_of_load(alloc: Global) -> Result<Network, Fail> {
     let study = study(alloc)?;
     let load = Load {
         name: name()?,
@@ -84,14 +82,13 @@ fn a_load_with_a_phase(rt: HostRuntime) -> Result<(), Fail> {
         phase: Some(Phase::A),
     };
     let mut network = new_network(alloc, 1)?;
-    let added = add_load(alloc, &mut network, &study, &load, 1, Sequence::Zero);
-    assert!(rt; added == Ok(()));
-    assert_network(&rt, "load", &network, 1, &[motor(), beside()])
+    match add_load(alloc, &mut network, &study, &load, 1, Sequence::Zero) {
+        Ok(()) => Ok(network),
+        Err(_) => Err("refused".into()),
+    }
 }
 
-#[test]
-fn a_bank_with_a_phase(rt: HostRuntime) -> Result<(), Fail> {
-    let alloc = rt.alloc();
+fn network_of_bank(alloc: Global) -> Result<Network, Fail> {
     let study = study(alloc)?;
     let bank = Bank {
         name: name()?,
@@ -101,14 +98,13 @@ fn a_bank_with_a_phase(rt: HostRuntime) -> Result<(), Fail> {
         phase: Some(Phase::C),
     };
     let mut network = new_network(alloc, 1)?;
-    let added = add_bank(alloc, &mut network, &study, &bank, 1, Sequence::Zero);
-    assert!(rt; added == Ok(()));
-    assert_network(&rt, "bank", &network, 1, &[shunt(0, (4, 100))])
+    match add_bank(alloc, &mut network, &study, &bank, 1, Sequence::Zero) {
+        Ok(()) => Ok(network),
+        Err(_) => Err("refused".into()),
+    }
 }
 
-#[test]
-fn a_filter_with_a_phase(rt: HostRuntime) -> Result<(), Fail> {
-    let alloc = rt.alloc();
+fn network_of_filter(alloc: Global) -> Result<Network, Fail> {
     let study = study(alloc)?;
     let filter = Filter {
         name: name()?,
@@ -123,12 +119,25 @@ fn a_filter_with_a_phase(rt: HostRuntime) -> Result<(), Fail> {
         phase: Some(Phase::B),
     };
     let mut network = new_network(alloc, 1)?;
-    let added = add_filter(alloc, &mut network, &study, &filter, 1, Sequence::Zero);
-    assert!(rt; added == Ok(()));
-    let wanted = [
-        between(0, 1, [(0, 1), (0, 1), (1, 1), (0, 1), (25, 1)]),
-        to_ground(1, [(10, 1), (0, 1), (1, 1), (0, 1), (0, 1)]),
-        to_ground(1, [(0, 1), (0, 1), (1, 1), (1, 1), (0, 1)]),
-    ];
-    assert_network(&rt, "filter", &network, 2, &wanted)
+    match add_filter(alloc, &mut network, &study, &filter, 1, Sequence::Zero) {
+        Ok(()) => Ok(network),
+        Err(_) => Err("refused".into()),
+    }
+}
+
+const FILTER: [Wanted; 3] = [
+    Wanted::Between(0, 1, [(0, 1), (0, 1), (1, 1), (0, 1), (25, 1)]),
+    Wanted::ToGround(1, [(10, 1), (0, 1), (1, 1), (0, 1), (0, 1)]),
+    Wanted::ToGround(1, [(0, 1), (0, 1), (1, 1), (1, 1), (0, 1)]),
+];
+
+#[test]
+fn elements_with_a_phase(rt: HostRuntime) -> Result<(), Fail> {
+    let load = network_of_load(rt.alloc())?;
+    assert_network(&rt, "load", &load, 1, &[MOTOR, BESIDE]);
+    let bank = network_of_bank(rt.alloc())?;
+    assert_network(&rt, "bank", &bank, 1, &[Wanted::Shunt(0, (4, 100))]);
+    let filter = network_of_filter(rt.alloc())?;
+    assert_network(&rt, "filter", &filter, 2, &FILTER);
+    Ok(())
 }

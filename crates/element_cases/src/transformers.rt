@@ -1,21 +1,18 @@
 // Transformers of 10 MVA and 10 percent: their reactance is 1 per unit.
-use crate::expected::{Case, Value, Values, Wanted, assert_cases, between, to_ground};
+use crate::expected::Wanted::{Between, ToGround};
+use crate::expected::{Case, Parts, Value, Values, Wanted, assert_cases};
 use std::test::Fail;
 use study_model::Sequence;
-
-fn series(r: Value, x: Value) -> [Value; 5] {
-    [r, (0, 1), (1, 1), x, (0, 1)]
-}
 
 const LEAKAGE: [Value; 5] = [(0, 1), (0, 1), (1, 1), (1, 1), (0, 1)];
 
 // The windings between the two buses, where a ratio of 1.025 is 40/41 at the from side.
-const TAPPED: Wanted = Wanted {
+const TAPPED: Wanted = Wanted::Other(Parts {
     first: (0, (40, 41)),
     second: Some(1),
     values: Values::Series(LEAKAGE),
     owner: 1,
-};
+});
 
 #[test]
 fn a_transformer_ties_its_buses(rt: HostRuntime) -> Result<(), Fail> {
@@ -25,7 +22,7 @@ fn a_transformer_ties_its_buses(rt: HostRuntime) -> Result<(), Fail> {
             elements: "transformer = [{ name = \"T1\", from = \"B1\", to = \"B2\", mva = 10, r = 0, x = 10, to_conn = \"delta\" }]",
             sequence: Sequence::Positive,
             nodes: 2,
-            branches: &[between(0, 1, LEAKAGE)],
+            branches: &[Between(0, 1, LEAKAGE)],
         },
         Case {
             label: "the ratio is at the from side",
@@ -54,14 +51,14 @@ fn the_connections_decide_in_the_zero_network(rt: HostRuntime) -> Result<(), Fai
             elements: "transformer = [{ name = \"T1\", from = \"B1\", to = \"B2\", mva = 10, r = 0, x = 10, from_conn = \"grounded\", to_conn = \"delta\" }]",
             sequence: Sequence::Zero,
             nodes: 2,
-            branches: &[to_ground(0, LEAKAGE)],
+            branches: &[ToGround(0, LEAKAGE)],
         },
         Case {
             label: "delta, grounded",
             elements: "transformer = [{ name = \"T1\", from = \"B1\", to = \"B2\", mva = 10, r = 0, x = 10, ratio = 2, from_conn = \"delta\", to_conn = \"grounded\" }]",
             sequence: Sequence::Zero,
             nodes: 2,
-            branches: &[to_ground(1, LEAKAGE)],
+            branches: &[ToGround(1, LEAKAGE)],
         },
         Case {
             label: "star, delta",
@@ -83,9 +80,9 @@ fn the_connections_decide_in_the_zero_network(rt: HostRuntime) -> Result<(), Fai
             sequence: Sequence::Zero,
             nodes: 4,
             branches: &[
-                between(0, 2, series((3, 1), (0, 1))),
-                between(1, 3, series((0, 1), (6, 1))),
-                between(2, 3, LEAKAGE),
+                Between(0, 2, [(3, 1), (0, 1), (1, 1), (0, 1), (0, 1)]),
+                Between(1, 3, [(0, 1), (0, 1), (1, 1), (6, 1), (0, 1)]),
+                Between(2, 3, LEAKAGE),
             ],
         },
     ];
