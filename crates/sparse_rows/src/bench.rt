@@ -119,7 +119,8 @@ impl<E: Enclosure> SparseBench<E> {
         })
     }
 
-    /// The value of the matrix reduced to its last row and column: exactly that of `reduce_to_last`. It takes no memory.
+    /// The value of the matrix reduced to its last row and column, or the failure: exactly that of `reduce_to_last`. It takes no
+    /// memory. An entry that is zero at a listed place is treated as there: a later row that begins with it stays.
     pub fn reduce(&mut self, matrix: &Matrix<E>) -> Result<Rect<E>, Failure>
         requires size { matrix.now.size ≡ self.old.size }
         requires outside { Keeps self.old matrix.now }
@@ -136,7 +137,8 @@ impl<E: Enclosure> SparseBench<E> {
         )
     }
 
-    /// The solution of the matrix's rows with these right sides, which takes their place: exactly that of `solve`. It takes no memory.
+    /// The solution of the matrix's rows with these right sides, which takes their place, or the failure: exactly that of `solve`. It
+    /// takes no memory. After a failure the right sides are unspecified.
     pub fn solve(&mut self, matrix: &Matrix<E>, right: &mut Column<E>) -> Result<(), Failure>
         requires size { matrix.now.size ≡ self.old.size }
         requires sizes { length right.old ≡ matrix.now.size }
