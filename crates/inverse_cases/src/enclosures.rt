@@ -49,38 +49,44 @@ fn entry([re_low, re_high, im_low, im_high]: Cell) -> Result<Rect<Span<40>>, Fai
     Ok(Rect { re, im })
 }
 
-/// Compares the outcome of one entry.
-fn check_one(
-    rt: &impl Abort,
-    alloc: Global,
-    label: &str,
-    cell: Cell,
-    expected: Expected,
-) -> Result<(), Fail> {
-    let mut matrix = Matrix::new(alloc, 1)?;
-    matrix.set(0, 0, entry(cell)?);
-    let mut bench = InverseBench::new(alloc, 1)?;
-    assert_eq!(rt; found(bench.enclose(&matrix, 0)), expected, "{label}");
+/// Sets an entry, if the matrix has it.
+fn set(matrix: &mut Matrix<Span<40>>, row: u32, column: u32, cell: Cell) -> Result<(), Fail> {
+    if row < matrix.size() && column < matrix.size() {
+        matrix.set(row, column, entry(cell)?);
+    }
     Ok(())
 }
 
-/// Compares the outcomes of both columns of two rows, on one bench.
-fn check_two(
-    rt: &impl Abort,
-    alloc: Global,
-    label: &str,
-    cells: [Cell; 4],
-    expected: [Expected; 2],
-) -> Result<(), Fail> {
-    let mut matrix = Matrix::new(alloc, 2)?;
-    matrix.set(0, 0, entry(cells[0])?);
-    matrix.set(0, 1, entry(cells[1])?);
-    matrix.set(1, 0, entry(cells[2])?);
-    matrix.set(1, 1, entry(cells[3])?);
-    let mut bench = InverseBench::new(alloc, 2)?;
-    assert_eq!(rt; found(bench.enclose(&matrix, 0)), expected[0], "{label}");
-    assert_eq!(rt; found(bench.enclose(&matrix, 1)), expected[1], "{label}");
-    Ok(())
+/// A matrix of one entry or of two rows, which has the first of these cells.
+fn matrix_of(alloc: Global, size: u32, cells: [Cell; 4]) -> Result<Matrix<Span<40>>, Fail> {
+    let mut matrix = Matrix::new(alloc, size.min(2))?;
+    for (row, column, cell) in [
+        (0, 0, cells[0]),
+        (0, 1, cells[1]),
+        (1, 0, cells[2]),
+        (1, 1, cells[3]),
+    ] {
+        set(&mut matrix, row, column, cell)?;
+    }
+    Ok(matrix)
+}
+
+/// The outcomes at the first and at the last column, on one bench.
+fn outcomes(alloc: Global, size: u32, cells: [Cell; 4]) -> Result<[Expected; 2], Fail> {
+    let matrix = matrix_of(alloc, size, cells)?;
+    let size = matrix.size();
+    if size < 1 || 2 < size {
+        return Err("neither one row nor two".into());
+    }
+    let mut bench = InverseBench::new(alloc, size)?;
+    let first = found(bench.enclose(&matrix, 0));
+    let last = found(bench.enclose(&matrix, size - 1));
+    Ok([first, last])
+}
+
+/// Compares outcomes. An assertion that stands in a test costs its proof more than this call does.
+fn expect(rt: &impl Abort, outcomes: [Expected; 2], wanted: [Expected; 2], label: &str) {
+    assert_eq!(rt; outcomes, wanted, "{label}");
 }
 
 #[test]
@@ -119,7 +125,8 @@ fn one_entry(rt: HostRuntime) -> Result<(), Fail> {
         ),
     ];
     for (label, cell, expected) in cases {
-        check_one(&rt, rt.alloc(), label, cell, expected)?;
+        let found = outcomes(rt.alloc(), 1, [cell; 4])?;
+        expect(&rt, found, [expected; 2], label);
     }
     Ok(())
 }
@@ -171,7 +178,7 @@ fn two_rows(rt: HostRuntime) -> Result<(), Fail> {
         ),
     ];
     for (label, cells, expected) in cases {
-        check_two(&rt, rt.alloc(), label, cells, expected)?;
+        expect(&rt, outcomes(rt.alloc(), 2, cells)?, expected, label);
     }
     Ok(())
 }
