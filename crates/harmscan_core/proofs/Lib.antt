@@ -4,7 +4,7 @@ pub mod Causes
 pub mod Accepted
 pub mod Complete
 pub mod BoxCount
-pub mod NodeOrders
+pub mod NodeOrderings
 pub mod StudyFacts
 pub mod WholeReport
 pub mod Written
