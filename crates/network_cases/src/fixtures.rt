@@ -187,6 +187,11 @@ pub fn two_buses(alloc: Global) -> Result<Network, Fail>
     network_of(alloc, 2, parts.as_slice())
 }
 
+/// How many nodes and branches a network has.
+pub fn counts(network: &Network) -> (u32, usize) {
+    (network.nodes, network.branches.len())
+}
+
 /// The node of this number, which must be live.
 pub fn live_node(alloc: Global, network: &Network, number: u32) -> Result<NodeId, Fail>
     requires { IsWholeNetwork network.now }

@@ -10,6 +10,8 @@ mod building;
 #[cfg(test)]
 mod fixtures;
 #[cfg(test)]
+mod live_nodes;
+#[cfg(test)]
 mod reductions;
 #[cfg(test)]
 mod scans;

@@ -3,7 +3,7 @@ use Rattle.std.specs.List.{AllByRecursion}
 use Rattle.network_theory.proofs.Couplings.{coupling_same}
 use Rattle.net_branch.specs.Exact.{exact_law}
 use Rattle.network_cases.proofs.Equal.{same_throughout}
-use Rattle.network_cases.proofs.building.with_group.Goals as goal
+use Rattle.network_cases.proofs.live_nodes.with_group.Goals as goal
 
 pub push_group-requires-clause-three : goal.push_group-requires-clause-three
 push_group-requires-clause-three c =
