@@ -7,91 +7,43 @@ const PLACE: Place = Place {
     key: Key::From,
 };
 
+const WITH_A_PLACE: [(StudyFault, u32, &str); 16] = [
+    (StudyFault::MissingKey(PLACE), 3, "MissingKey"),
+    (StudyFault::UnknownKey(PLACE), 4, "UnknownKey"),
+    (StudyFault::WrongKind(PLACE), 5, "WrongKind"),
+    (StudyFault::BareDecimal(PLACE), 6, "BareDecimal"),
+    (StudyFault::BadDecimal(PLACE), 7, "BadDecimal"),
+    (StudyFault::OutOfRange(PLACE), 8, "OutOfRange"),
+    (StudyFault::BadName(PLACE), 9, "BadName"),
+    (StudyFault::DuplicateName(PLACE), 10, "DuplicateName"),
+    (StudyFault::UnknownBus(PLACE), 11, "UnknownBus"),
+    (StudyFault::TooMany(PLACE), 12, "TooMany"),
+    (StudyFault::BadBand(PLACE), 13, "BadBand"),
+    (StudyFault::TooFine(PLACE), 14, "TooFine"),
+    (StudyFault::Floating(PLACE), 15, "Floating"),
+    (StudyFault::PhaseFloating(PLACE), 16, "PhaseFloating"),
+    (StudyFault::NotBuilt(PLACE), 17, "NotBuilt"),
+    (StudyFault::UnknownElement(PLACE), 18, "UnknownElement"),
+];
+
+const WITHOUT_A_PLACE: [(StudyFault, Option<u32>, &str); 3] = [
+    (StudyFault::NotToml, Some(1), "NotToml"),
+    (StudyFault::VersionUnknown, Some(2), "VersionUnknown"),
+    (StudyFault::NoMemory, None, "NoMemory"),
+];
+
 #[test]
-fn numbers_and_names_of_faults(rt: HostRuntime) {
-    let table = [
-        (StudyFault::NotToml, Some(1), "NotToml", None),
-        (StudyFault::VersionUnknown, Some(2), "VersionUnknown", None),
-        (
-            StudyFault::MissingKey(PLACE),
-            Some(3),
-            "MissingKey",
-            Some(PLACE),
-        ),
-        (
-            StudyFault::UnknownKey(PLACE),
-            Some(4),
-            "UnknownKey",
-            Some(PLACE),
-        ),
-        (
-            StudyFault::WrongKind(PLACE),
-            Some(5),
-            "WrongKind",
-            Some(PLACE),
-        ),
-        (
-            StudyFault::BareDecimal(PLACE),
-            Some(6),
-            "BareDecimal",
-            Some(PLACE),
-        ),
-        (
-            StudyFault::BadDecimal(PLACE),
-            Some(7),
-            "BadDecimal",
-            Some(PLACE),
-        ),
-        (
-            StudyFault::OutOfRange(PLACE),
-            Some(8),
-            "OutOfRange",
-            Some(PLACE),
-        ),
-        (StudyFault::BadName(PLACE), Some(9), "BadName", Some(PLACE)),
-        (
-            StudyFault::DuplicateName(PLACE),
-            Some(10),
-            "DuplicateName",
-            Some(PLACE),
-        ),
-        (
-            StudyFault::UnknownBus(PLACE),
-            Some(11),
-            "UnknownBus",
-            Some(PLACE),
-        ),
-        (StudyFault::TooMany(PLACE), Some(12), "TooMany", Some(PLACE)),
-        (StudyFault::BadBand(PLACE), Some(13), "BadBand", Some(PLACE)),
-        (StudyFault::TooFine(PLACE), Some(14), "TooFine", Some(PLACE)),
-        (
-            StudyFault::Floating(PLACE),
-            Some(15),
-            "Floating",
-            Some(PLACE),
-        ),
-        (
-            StudyFault::PhaseFloating(PLACE),
-            Some(16),
-            "PhaseFloating",
-            Some(PLACE),
-        ),
-        (
-            StudyFault::NotBuilt(PLACE),
-            Some(17),
-            "NotBuilt",
-            Some(PLACE),
-        ),
-        (
-            StudyFault::UnknownElement(PLACE),
-            Some(18),
-            "UnknownElement",
-            Some(PLACE),
-        ),
-        (StudyFault::NoMemory, None, "NoMemory", None),
-    ];
-    for (fault, number, name, place) in table {
+fn faults_with_a_place(rt: HostRuntime) {
+    for (fault, number, name) in WITH_A_PLACE {
         let found = (fault.number(), fault.name(), fault.place());
-        assert_eq!(rt; found, (number, name, place), "{name}");
+        assert_eq!(rt; found, (Some(number), name, Some(PLACE)), "{name}");
+    }
+}
+
+#[test]
+fn faults_without_a_place(rt: HostRuntime) {
+    for (fault, number, name) in WITHOUT_A_PLACE {
+        let found = (fault.number(), fault.name(), fault.place());
+        assert_eq!(rt; found, (number, name, None), "{name}");
     }
 }

@@ -17,6 +17,10 @@ const KV400: Decimal = Decimal {
     millionths: 400_000_000,
 };
 
+const AMPERE: Decimal = Decimal {
+    millionths: 1_000_000,
+};
+
 const AMPERES_1000: Decimal = Decimal {
     millionths: 1_000_000_000,
 };
@@ -65,9 +69,9 @@ fn limits_of_currents_at_33_kv(rt: HostRuntime) {
     }
 }
 
-#[test]
-fn limits_of_currents_elsewhere(rt: HostRuntime) {
-    let table = [
+/// Each limit with its label and the one that is wanted. It has no contract, so that no case is proved under what is proved of them.
+fn found_elsewhere() -> [(&'static str, u64, u64); 5] {
+    [
         (
             "just below a ratio of 20",
             current_limit(KV33, AMPERES_19999, AMPERES_1000, 5),
@@ -75,14 +79,7 @@ fn limits_of_currents_elsewhere(rt: HostRuntime) {
         ),
         (
             "a ratio of 1000",
-            current_limit(
-                KV33,
-                AMPERES_1000,
-                Decimal {
-                    millionths: 1_000_000,
-                },
-                5,
-            ),
+            current_limit(KV33, AMPERES_1000, AMPERE, 5),
             150_000,
         ),
         (
@@ -100,8 +97,12 @@ fn limits_of_currents_elsewhere(rt: HostRuntime) {
             tdd_limit(KV33, AMPERES_20000, AMPERES_1000),
             80_000,
         ),
-    ];
-    for (label, found, limit) in table {
+    ]
+}
+
+#[test]
+fn limits_of_currents_elsewhere(rt: HostRuntime) {
+    for (label, found, limit) in found_elsewhere() {
         assert_eq!(rt; found, limit, "{label}");
     }
 }

@@ -21,95 +21,99 @@ fn read(alloc: Global, text: &str) -> Option<Result<Report, ReportFault>> {
     Some(read_report(alloc, text.as_bytes()))
 }
 
+/// Reports, each with how many rows it has.
+const WHOLE: [(&str, &str, usize); 4] = [
+    ("an end alone", "end,3\n", 1),
+    (
+        "a cleared band",
+        "scan,s1,B1,positive,1.000000,10.000000,20.000000,elimination\nbox,1,1.000000,10.000000,cleared,-,-\nsummary,s1,1,1,0,0,0\nend,0\n",
+        4,
+    ),
+    (
+        "a peak",
+        "scan,s.1,B_1,c,3.000000,7.000000,0.000001,both\nbox,1,3.000000,7.000000,peak,5.250000,50.186343\nregion,1,4.000000,6.000000,200.000000,18446744073709.551615,4,4294967295,5.250000,1329227995784915872903807060280.344576\nsummary,s.1,1,0,1,0,1\nend,3\n",
+        5,
+    ),
+    (
+        "two scans",
+        "scan,s1,B1,a,1.000000,10.000000,20.000000,both\nsummary,s1,0,0,0,0,0\nscan,s2,B1,b,1.000000,10.000000,20.000000,both\nbox,1,1.000000,10.000000,undecided,-,-\nsummary,s2,0,0,0,0,0\nend,0\n",
+        6,
+    ),
+];
+
 #[test]
 fn whole_reports(rt: HostRuntime) {
-    let table = [
-        ("an end alone", "end,3\n", 1),
-        (
-            "a cleared band",
-            "scan,s1,B1,positive,1.000000,10.000000,20.000000,elimination\nbox,1,1.000000,10.000000,cleared,-,-\nsummary,s1,1,1,0,0,0\nend,0\n",
-            4,
-        ),
-        (
-            "a peak",
-            "scan,s.1,B_1,c,3.000000,7.000000,0.000001,both\nbox,1,3.000000,7.000000,peak,5.250000,50.186343\nregion,1,4.000000,6.000000,200.000000,18446744073709.551615,4,4294967295,5.250000,1329227995784915872903807060280.344576\nsummary,s.1,1,0,1,0,1\nend,3\n",
-            5,
-        ),
-        (
-            "two scans",
-            "scan,s1,B1,a,1.000000,10.000000,20.000000,both\nsummary,s1,0,0,0,0,0\nscan,s2,B1,b,1.000000,10.000000,20.000000,both\nbox,1,1.000000,10.000000,undecided,-,-\nsummary,s2,0,0,0,0,0\nend,0\n",
-            6,
-        ),
-    ];
-    for (label, text, rows) in table {
+    for (label, text, rows) in WHOLE {
         assert_rows(&rt, rt.alloc(), label, text, Ok(rows));
     }
 }
 
+/// Texts that are no report, each with its first line that is none.
+const BAD: [(&str, &str, u32); 19] = [
+    ("no bytes", "", 1),
+    ("an empty line", "\n", 1),
+    ("no line feed", "end,0", 1),
+    ("a carriage return", "end,0\r\n", 1),
+    ("a number past 32 bits", "end,4294967296\n", 1),
+    ("quotes", "\"end\",0\n", 1),
+    ("a field too many", "end,0,0\n", 1),
+    ("two ends", "end,0\nend,0\n", 2),
+    ("no scan", "summary,s1,1,1,0,0,0\nend,0\n", 1),
+    (
+        "a box before a scan",
+        "box,1,1.000000,10.000000,cleared,-,-\nend,0\n",
+        1,
+    ),
+    (
+        "a region before a scan",
+        "region,1,4.000000,6.000000,200.000000,300.000000,4,0,5.250000,50.186343\nend,0\n",
+        1,
+    ),
+    (
+        "a scan alone",
+        "scan,s1,B1,positive,1.000000,10.000000,20.000000,elimination\n",
+        2,
+    ),
+    (
+        "an end in a scan",
+        "scan,s1,B1,positive,1.000000,10.000000,20.000000,elimination\nend,0\n",
+        2,
+    ),
+    (
+        "a scan in a scan",
+        "scan,s1,B1,zero,1.000000,10.000000,20.000000,both\nscan,s1,B1,zero,1.000000,10.000000,20.000000,both\nend,0\n",
+        2,
+    ),
+    (
+        "a threshold of 0",
+        "scan,s1,B1,positive,1.000000,10.000000,0.000000,elimination\n",
+        1,
+    ),
+    (
+        "a leading zero",
+        "scan,s1,B1,positive,1.000000,10.000000,20.000000,elimination\nbox,01,1.000000,10.000000,cleared,-,-\nsummary,s1,1,1,0,0,0\nend,0\n",
+        2,
+    ),
+    (
+        "ohms past 2^120",
+        "scan,s1,B1,positive,1.000000,10.000000,20.000000,elimination\nbox,1,1.000000,10.000000,peak,2.000000,1329227995784915872903807060280.344577\nsummary,s1,1,1,0,0,0\nend,0\n",
+        2,
+    ),
+    (
+        "no end",
+        "scan,s1,B1,positive,1.000000,10.000000,20.000000,elimination\nbox,1,1.000000,10.000000,cleared,-,-\nsummary,s1,1,1,0,0,0\n",
+        4,
+    ),
+    (
+        "a row past the end",
+        "scan,s1,B1,positive,1.000000,10.000000,20.000000,elimination\nbox,1,1.000000,10.000000,cleared,-,-\nsummary,s1,1,1,0,0,0\nend,0\nend,0\n",
+        5,
+    ),
+];
+
 #[test]
 fn bad_lines(rt: HostRuntime) {
-    let table = [
-        ("no bytes", "", 1),
-        ("an empty line", "\n", 1),
-        ("no line feed", "end,0", 1),
-        ("a carriage return", "end,0\r\n", 1),
-        ("a number past 32 bits", "end,4294967296\n", 1),
-        ("quotes", "\"end\",0\n", 1),
-        ("a field too many", "end,0,0\n", 1),
-        ("two ends", "end,0\nend,0\n", 2),
-        ("no scan", "summary,s1,1,1,0,0,0\nend,0\n", 1),
-        (
-            "a box before a scan",
-            "box,1,1.000000,10.000000,cleared,-,-\nend,0\n",
-            1,
-        ),
-        (
-            "a region before a scan",
-            "region,1,4.000000,6.000000,200.000000,300.000000,4,0,5.250000,50.186343\nend,0\n",
-            1,
-        ),
-        (
-            "a scan alone",
-            "scan,s1,B1,positive,1.000000,10.000000,20.000000,elimination\n",
-            2,
-        ),
-        (
-            "an end in a scan",
-            "scan,s1,B1,positive,1.000000,10.000000,20.000000,elimination\nend,0\n",
-            2,
-        ),
-        (
-            "a scan in a scan",
-            "scan,s1,B1,zero,1.000000,10.000000,20.000000,both\nscan,s1,B1,zero,1.000000,10.000000,20.000000,both\nend,0\n",
-            2,
-        ),
-        (
-            "a threshold of 0",
-            "scan,s1,B1,positive,1.000000,10.000000,0.000000,elimination\n",
-            1,
-        ),
-        (
-            "a leading zero",
-            "scan,s1,B1,positive,1.000000,10.000000,20.000000,elimination\nbox,01,1.000000,10.000000,cleared,-,-\nsummary,s1,1,1,0,0,0\nend,0\n",
-            2,
-        ),
-        (
-            "ohms past 2^120",
-            "scan,s1,B1,positive,1.000000,10.000000,20.000000,elimination\nbox,1,1.000000,10.000000,peak,2.000000,1329227995784915872903807060280.344577\nsummary,s1,1,1,0,0,0\nend,0\n",
-            2,
-        ),
-        (
-            "no end",
-            "scan,s1,B1,positive,1.000000,10.000000,20.000000,elimination\nbox,1,1.000000,10.000000,cleared,-,-\nsummary,s1,1,1,0,0,0\n",
-            4,
-        ),
-        (
-            "a row past the end",
-            "scan,s1,B1,positive,1.000000,10.000000,20.000000,elimination\nbox,1,1.000000,10.000000,cleared,-,-\nsummary,s1,1,1,0,0,0\nend,0\nend,0\n",
-            5,
-        ),
-    ];
-    for (label, text, line) in table {
+    for (label, text, line) in BAD {
         assert_rows(&rt, rt.alloc(), label, text, Err(line));
     }
 }
