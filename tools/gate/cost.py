@@ -19,7 +19,7 @@ KINDS = ("proof and build", "tests", "edits")
 
 
 def processes():
-    """Each process: its parent, and its own processor time in seconds."""
+    """Each process: its parent, its own processor time in seconds, and when it began."""
     found = {}
     for name in os.listdir("/proc"):
         if name.isdigit():
@@ -28,24 +28,24 @@ def processes():
                     fields = file.read().rsplit(") ", 1)[1].split()
             except OSError:
                 continue
-            found[int(name)] = (int(fields[1]), (int(fields[11]) + int(fields[12])) / TICK)
+            found[int(name)] = (int(fields[1]), (int(fields[11]) + int(fields[12])) / TICK, int(fields[19]))
     return found
 
 
-def share_of(pid, above):
-    """The crate and the kind of work of a process, or those of the process above it."""
+def share_of(pid):
+    """The crate and the kind of work that a process tells of itself, if it does: one that has ended tells nothing more."""
     try:
         with open(f"/proc/{pid}/cmdline", "rb") as file:
             words = [word.decode(errors="replace") for word in file.read().split(b"\0")]
         folder = os.readlink(f"/proc/{pid}/cwd")
     except OSError:
-        return above
+        return None
     if "--crate-name" in words and words[-1:] != ["--crate-name"]:
         kind = 2 if "/rt-edit" in folder else 1 if "--test" in words else 0
         return (words[words.index("--crate-name") + 1], kind)
     if os.path.basename(words[0]).endswith("_tests"):
         return (os.path.basename(words[0])[: -len("_tests")], 1)
-    return above
+    return None
 
 
 def main():
@@ -55,18 +55,18 @@ def main():
     while run.poll() is None:
         found = processes()
         below = collections.defaultdict(list)
-        for pid, (parent, _) in found.items():
+        for pid, (parent, _, _) in found.items():
             below[parent].append(pid)
         todo = [(run.pid, ("(rt itself)", 0))]
         while todo:
             pid, above = todo.pop()
-            share = share_of(pid, above)
-            if pid in found:
-                # a number may be used again by a later process
-                if used.get(pid, 0) > found[pid][1] + 1:
-                    pid_key = (pid, len(used))
-                    used[pid_key], shares[pid_key] = used.pop(pid), shares.pop(pid)
-                used[pid], shares[pid] = found[pid][1], share
+            if pid not in found:
+                continue
+            # a number may be used again by a later process
+            _, seconds, began_at = found[pid]
+            process = (pid, began_at)
+            share = share_of(pid) or shares.get(process, above)
+            used[process], shares[process] = seconds, share
             todo += [(child, share) for child in below[pid]]
         time.sleep(0.5)
     table = collections.defaultdict(lambda: [0.0, 0.0, 0.0])
