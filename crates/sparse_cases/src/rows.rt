@@ -117,6 +117,29 @@ fn rows_are_reduced(rt: HostRuntime) -> Result<(), Fail> {
         &alone,
         Found::Value([-1, 1, 0, 0]),
     )?;
+    let zero_inside = [(0, 0, ONE), (0, 1, GREATEST), (1, 0, [0, 0]), (1, 1, ONE)];
+    check_reduced(
+        &rt,
+        rt.alloc(),
+        "a row that begins with zero stays",
+        2,
+        &zero_inside,
+        Found::Value([UNIT, UNIT, 0, 0]),
+    )?;
+    let twice = [(0, 0, FOUR), (0, 0, ONE)];
+    check_reduced(
+        &rt,
+        rt.alloc(),
+        "a place that is named twice",
+        1,
+        &twice,
+        Found::Value([UNIT, UNIT, 0, 0]),
+    )?;
+    Ok(())
+}
+
+#[test]
+fn failures_have_their_step(rt: HostRuntime) -> Result<(), Fail> {
     let unmarked = [(1, 1, ONE)];
     check_reduced(
         &rt,
@@ -143,24 +166,6 @@ fn rows_are_reduced(rt: HostRuntime) -> Result<(), Fail> {
         2,
         &beyond,
         Found::Beyond(1),
-    )?;
-    let zero_inside = [(0, 0, ONE), (0, 1, GREATEST), (1, 0, [0, 0]), (1, 1, ONE)];
-    check_reduced(
-        &rt,
-        rt.alloc(),
-        "a row that begins with zero stays",
-        2,
-        &zero_inside,
-        Found::Value([UNIT, UNIT, 0, 0]),
-    )?;
-    let twice = [(0, 0, FOUR), (0, 0, ONE)];
-    check_reduced(
-        &rt,
-        rt.alloc(),
-        "a place that is named twice",
-        1,
-        &twice,
-        Found::Value([UNIT, UNIT, 0, 0]),
     )?;
     Ok(())
 }
