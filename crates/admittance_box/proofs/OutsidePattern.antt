@@ -11,7 +11,7 @@ use Rattle.plain_elimination.specs.declared.pattern.Spot.{Spot}
 use Rattle.admittance_box.specs.Addends.{LawEnds, PlacedTap, TapPair, Addend, Dead, Absent, Joined, law_between, tap_between, taps_between, pair_between, pairs_with, tap_pairs, has_place, joined, addend_between, addends_between}
 use Rattle.admittance_box.specs.BoxMatrix.{law_rectangle, grown, with_pairs, with_addend, or_branch, with_addends, nought_rows, box_matrix}
 use Rattle.admittance_box.specs.Orders.{order_ends}
-use Rattle.admittance_box.specs.Pattern.{spot_at, spots_with, tap_spots, branch_spots, ZeroOutside}
+use Rattle.admittance_box.specs.Pattern.{spot_at, spots_with, tap_spots, branch_spots, MatrixIsZeroOutside}
 use Rattle.admittance_box.specs.Places.{place_of}
 use Rattle.admittance_box.specs.Steps.{◌>>=◌}
 use Rattle.admittance_box.proofs.Steps.{bind-some}
@@ -159,7 +159,7 @@ module _ (i j : ℕ) where
         go None is e more = absurd cc
         go (Some mid) is e more = more mid e ∙ addend_other h a b rows mid (first_part IsOtherSpot (tap_spots ordering a.taps a.taps) (branch_spots ordering xs) other) is
 
-pub zero_outside : ZeroOutside
+pub zero_outside : MatrixIsZeroOutside
 unfolding box_matrix
 zero_outside s low high ordering lo hi rows e row column in_rows in_columns none =
     addends_other row column s ordering (order_ends s lo hi) 0 low.branches high.branches (nought_rows (length ordering)) rows (by_recursion (IsOtherSpot row column) (branch_spots ordering low.branches) none) e

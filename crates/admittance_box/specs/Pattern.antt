@@ -30,8 +30,8 @@ branch_spots ordering [] = []
 branch_spots ordering (b ∷ bs) = tap_spots ordering b.taps b.taps ++ branch_spots ordering bs
 
 -- the matrix of a box is exact zero outside these spots, for a network and for each pair from it on
-abbrev pub ZeroOutside : Type 0
-ZeroOutside =
+abbrev pub MatrixIsZeroOutside : Type 0
+MatrixIsZeroOutside =
     (s : ℕ) (low high : Network) (ordering : List ℕ) (lo hi : ℕ) (rows : List (List Rectangle)) → box_matrix s low high ordering lo hi ≡ Ok rows
     → IsZeroOutside (branch_spots ordering low.branches) (record { size = length ordering; rows = rows })
 

@@ -3,7 +3,7 @@ ghost use Rattle.std.specs.Prelude.{◌≡◌, ◌≤◌, ◌++◌, IfOk, length
 ghost use Rattle.network_theory.specs.Live.{Live};
 ghost use Rattle.net_branch.specs.Exact.{exact_branch, exact_network, exact_tap};
 ghost use Rattle.net_branch.specs.Whole.{IsWholeNetwork};
-ghost use Rattle.admittance_box.specs.Pattern.{ZeroOutside, spots_with, tap_spots, branch_spots, IsPattern, IsPatternOf};
+ghost use Rattle.admittance_box.specs.Pattern.{MatrixIsZeroOutside, spots_with, tap_spots, branch_spots, IsPattern, IsPatternOf};
 ghost use Rattle.plain_elimination.specs.declared.limits.TheConstants.{MAX_SIZE};
 
 use crate::node_ordering::order_nodes;
@@ -93,5 +93,5 @@ pub fn pattern(alloc: Global, network: &Network, driven: NodeId) -> Result<Patte
 
 /// The matrix of a box is exact zero outside the pattern's spots.
 pub fn zero_outside()
-    ensures law { ZeroOutside }
+    ensures law { MatrixIsZeroOutside }
 {}

@@ -26,18 +26,18 @@ fn nodes_are_added_up_to_the_limit(rt: HostRuntime) -> Result<(), Fail> {
         (3, (3, 0)),
         "three buses",
     );
-    let mut network = new_network(rt.alloc(), 118)?;
+    let mut network = new_network(rt.alloc(), 398)?;
     let found = (add(&mut network), add(&mut network), add(&mut network));
     expect(
         &rt,
         found,
-        (Ok(118), Ok(119), Err(NetFault::TooMany)),
+        (Ok(398), Ok(399), Err(NetFault::TooMany)),
         "three nodes more",
     );
     expect(
         &rt,
         (network.buses, network.nodes),
-        (118, 120),
+        (398, 400),
         "the full network",
     );
     Ok(())
@@ -203,46 +203,46 @@ fn refusals_come_in_their_order(rt: HostRuntime) -> Result<(), Fail> {
 fn branches_are_pushed_up_to_the_limit(rt: HostRuntime) -> Result<(), Fail> {
     let mut network = new_network(rt.alloc(), 1)?;
     let rows = [
-        ("799", Step::Shunts(799), DONE, (1, 799)),
-        ("the last", Step::Push(bank(0, ONE)), DONE, (1, 800)),
-        ("one more", Step::Push(bank(0, ONE)), TOO_MANY, (1, 800)),
+        ("2399", Step::Shunts(2399), DONE, (1, 2399)),
+        ("the last", Step::Push(bank(0, ONE)), DONE, (1, 2400)),
+        ("one more", Step::Push(bank(0, ONE)), TOO_MANY, (1, 2400)),
         // a node out of range comes before, and a law of zero after
         (
             "out of range",
             Step::Push(bank(1, ONE)),
             OUT_OF_RANGE,
-            (1, 800),
+            (1, 2400),
         ),
-        ("no shunt", Step::Push(bank(0, ZERO)), TOO_MANY, (1, 800)),
+        ("no shunt", Step::Push(bank(0, ZERO)), TOO_MANY, (1, 2400)),
     ];
     expect_steps(&rt, rt.alloc(), &mut network, rows.as_slice())
 }
 
 #[test]
 fn elements_are_added_whole_or_not_at_all(rt: HostRuntime) -> Result<(), Fail> {
-    let mut network = new_network(rt.alloc(), 118)?;
+    let mut network = new_network(rt.alloc(), 398)?;
     let steps = [
-        ("796 shunts", Step::Shunts(796), DONE, (118, 796)),
-        ("an element", Step::Tie(2, 118, 119), DONE, (120, 798)),
+        ("2396 shunts", Step::Shunts(2396), DONE, (398, 2396)),
+        ("an element", Step::Tie(2, 398, 399), DONE, (400, 2398)),
         (
             "a node too many",
             Step::Tie(1, 0, 1),
             ELEMENT_TOO_MANY,
-            (120, 798),
+            (400, 2398),
         ),
-        ("a shunt more", Step::Shunts(1), DONE, (120, 799)),
+        ("a shunt more", Step::Shunts(1), DONE, (400, 2399)),
         (
             "a branch too many",
             Step::Tie(0, 0, 1),
             ELEMENT_TOO_MANY,
-            (120, 799),
+            (400, 2399),
         ),
     ];
     expect_steps(&rt, rt.alloc(), &mut network, steps.as_slice())?;
-    let mut wanted = [false; 120];
+    let mut wanted = [false; 400];
     wanted[0] = true;
-    wanted[118] = true;
-    wanted[119] = true;
+    wanted[398] = true;
+    wanted[399] = true;
     expect_live(
         &rt,
         rt.alloc(),
@@ -264,12 +264,12 @@ fn taps_of(network: &Network, place: usize) -> Option<usize> {
 fn elements_fill_a_network(rt: HostRuntime) -> Result<(), Fail> {
     let mut network = new_network(rt.alloc(), 2)?;
     let steps = [
-        ("798 shunts", Step::Shunts(798), DONE, (2, 798)),
-        ("an element", Step::Tie(0, 0, 1), DONE, (2, 800)),
-        ("one more", Step::Tie(0, 0, 1), ELEMENT_TOO_MANY, (2, 800)),
+        ("2398 shunts", Step::Shunts(2398), DONE, (2, 2398)),
+        ("an element", Step::Tie(0, 0, 1), DONE, (2, 2400)),
+        ("one more", Step::Tie(0, 0, 1), ELEMENT_TOO_MANY, (2, 2400)),
     ];
     expect_steps(&rt, rt.alloc(), &mut network, steps.as_slice())?;
-    let taps = (taps_of(&network, 798), taps_of(&network, 799));
+    let taps = (taps_of(&network, 2398), taps_of(&network, 2399));
     expect(&rt, taps, (Some(2), Some(1)), "the element's taps");
     Ok(())
 }

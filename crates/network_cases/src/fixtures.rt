@@ -169,7 +169,7 @@ pub fn fill(alloc: Global, network: &mut Network, parts: &[Part]) -> Result<(), 
 
 /// So many buses with these parts.
 pub fn network_of(alloc: Global, buses: u32, parts: &[Part]) -> Result<Network, Fail>
-    requires { buses ≤ 120 }
+    requires { buses ≤ 400 }
     ensures whole { IfOk result IsWholeNetwork }
     ensures no_group { IfOk result (λ network. HasNoGroup (exact_network network)) }
 {

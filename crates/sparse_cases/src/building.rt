@@ -1,9 +1,8 @@
 // Matrices of a pattern.
 ghost use Rattle.std.specs.Prelude.{◌≡◌, ℕ, ◌+◌, ◌<◌, ◌≤◌, IfOk, length, take};
 ghost use Rattle.plain_elimination.specs.Matrix.{entry};
-ghost use Rattle.plain_elimination.specs.Pattern.{AreInside, IsNoPlace};
+ghost use Rattle.plain_elimination.specs.Pattern.{AreInside, IsNoPlace, IsZeroOutside};
 ghost use Rattle.plain_elimination.specs.declared.limits.TheConstants.{MAX_SIZE};
-ghost use Rattle.sparse_rows.specs.Bench.{Keeps};
 
 use complex_interval::{Enclosure, Rect, Span};
 use plain_elimination::{Matrix, Pattern, Spot};
@@ -56,7 +55,7 @@ pub fn matrix_of(
     requires few { pattern.now.size ≤ MAX_SIZE }
     requires inside { AreInside pattern.now.size pattern.now.places.items }
     ensures size { IfOk result (λ m. m.size ≡ pattern.now.size) }
-    ensures keeps { IfOk result (λ m. Keeps (record { size = pattern.now.size; places = pattern.now.places.items }) m) }
+    ensures zeros { IfOk result (IsZeroOutside pattern.now.places.items) }
 {
     let mut matrix = Matrix::new(alloc, pattern.size)?;
     for i in 0..pattern.places.len() {

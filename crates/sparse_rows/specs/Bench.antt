@@ -1,8 +1,7 @@
 -- What contracts see of a bench.
-use Rattle.std.specs.Prelude.{ℕ, ◌*◌, ◌+◌, ◌<◌, ◌≤◌, ◌≡◌, List, Some, length}
+use Rattle.std.specs.Prelude.{ℕ, ◌*◌, ◌+◌, ◌<◌, ◌≤◌, ◌≡◌, List, length}
 use Rattle.complex_interval.specs.Rectangles.{Rectangle}
 use Rattle.plain_elimination.specs.declared.pattern.Spot.{Spot}
-use Rattle.plain_elimination.specs.Matrix.{Square, entry, nought_rectangle}
 use Rattle.plain_elimination.specs.Pattern.{IsNoPlace}
 use Rattle.plain_elimination.specs.declared.limits.TheConstants.{MAX_SIZE}
 use Rattle.sparse_rows.specs.Listed.{Out, ZeroOutside, IsFill}
@@ -11,10 +10,6 @@ use Rattle.sparse_rows.specs.Listed.{Out, ZeroOutside, IsFill}
 pub record Places : Type 0 where
   pub size : ℕ
   pub places : List Spot
-
--- each entry outside the pattern is exact zero
-abbrev pub Keeps : Places → Square → Type 0
-Keeps pattern matrix = (row column : ℕ) → row < pattern.size → column < pattern.size → IsNoPlace pattern.places row column → entry matrix.rows row column ≡ Some nought_rectangle
 
 -- a bench of a pattern
 pub record IsBench (size : ℕ) (places : List Spot) (gaps : List ℕ) (cells sides : List Rectangle) : Type 0 where

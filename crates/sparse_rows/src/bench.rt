@@ -4,9 +4,8 @@ ghost use Rattle.complex_interval.specs.Rect.{rectangle_of};
 ghost use Rattle.plain_elimination.specs.Elimination.{bind, reduce, solve};
 ghost use Rattle.plain_elimination.specs.Layout.{rows_of};
 ghost use Rattle.plain_elimination.specs.Matrix.{HoldsComplements, HoldsSolutions};
-ghost use Rattle.plain_elimination.specs.Pattern.{AreInside};
+ghost use Rattle.plain_elimination.specs.Pattern.{AreInside, IsZeroOutside};
 ghost use Rattle.plain_elimination.specs.Rectangles.{rectangles, reduce_rectangles, solve_rectangles};
-ghost use Rattle.sparse_rows.specs.Bench.{Keeps};
 ghost use Rattle.sparse_rows.specs.Listed.{ZeroOutside, IsFill};
 ghost use Rattle.plain_elimination.specs.declared.limits.TheConstants.{MAX_SIZE};
 
@@ -123,7 +122,7 @@ impl<E: Enclosure> SparseBench<E> {
     /// memory. An entry that is zero at a listed place is treated as there: a later row that begins with it stays.
     pub fn reduce(&mut self, matrix: &Matrix<E>) -> Result<Rect<E>, Failure>
         requires size { matrix.now.size ≡ self.old.size }
-        requires outside { Keeps self.old matrix.now }
+        requires outside { IsZeroOutside self.old.places matrix.now }
         ensures stated { bind result (λ value. Ok (rectangle_of E.ends value)) ≡ reduce_rectangles E.SCALE matrix.now.rows }
         ensures held { IfOk result (λ value. HoldsComplements E.SCALE matrix.now (rectangle_of E.ends value)) }
         ensures kept { self.new ≡ self.old }
@@ -142,7 +141,7 @@ impl<E: Enclosure> SparseBench<E> {
     pub fn solve(&mut self, matrix: &Matrix<E>, right: &mut Column<E>) -> Result<(), Failure>
         requires size { matrix.now.size ≡ self.old.size }
         requires sizes { length right.old ≡ matrix.now.size }
-        requires outside { Keeps self.old matrix.now }
+        requires outside { IsZeroOutside self.old.places matrix.now }
         ensures stated { bind result (λ _. Ok right.new) ≡ solve_rectangles E.SCALE matrix.now.rows right.old }
         ensures held { OnOk result (HoldsSolutions E.SCALE matrix.now right.old right.new) }
         ensures right_size { length right.new ≡ length right.old }

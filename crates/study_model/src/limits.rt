@@ -1,7 +1,7 @@
 // How many entries a section has, and how fine a line and a band are.
 
 /// The most buses of a study, which has at least one.
-pub const MAX_BUSES: u32 = 60;
+pub const MAX_BUSES: u32 = 200;
 
 /// The most sources of a study, and so of lines, transformers, loads, banks and filters.
 pub const MAX_ELEMENTS: u32 = 200;

@@ -321,9 +321,9 @@ pub const INDUSTRIAL_FRONT: &str =
 
 pub const INDUSTRIAL_END: &str = "summary,s1,534,518,0,16,1\nend,4\n";
 
-/// Two lines of 64 and 56 sections: 120 nodes, as many as a network may have.
+/// Six lines of 64 sections and one of 21: 400 nodes, as many as a network may have.
 pub const FULL: &str = r#"study = { version = 1, mva = 100 }
 bus = [{ name = "A", kv = 10 }, { name = "K", kv = 10 }]
 source = [{ name = "S1", bus = "K", r = 0, x = 1 }]
-line = [{ name = "L1", from = "A", to = "K", r = 0, x = 1, sections = 64 }, { name = "L2", from = "A", to = "K", r = 0, x = 1, sections = 56 }]
+line = [{ name = "L1", from = "A", to = "K", r = 0, x = 1, sections = 64 }, { name = "L2", from = "A", to = "K", r = 0, x = 1, sections = 64 }, { name = "L3", from = "A", to = "K", r = 0, x = 1, sections = 64 }, { name = "L4", from = "A", to = "K", r = 0, x = 1, sections = 64 }, { name = "L5", from = "A", to = "K", r = 0, x = 1, sections = 64 }, { name = "L6", from = "A", to = "K", r = 0, x = 1, sections = 64 }, { name = "L7", from = "A", to = "K", r = 0, x = 1, sections = 21 }]
 "#;

@@ -728,14 +728,14 @@ pub const FLOATING: [(&str, &str); 12] = [
         "bus = [{ name = \"B1\", kv = 10 }]\nfilter = [{ name = \"F1\", bus = \"B1\", kind = \"ctype\", q = 4, order = 5, quality = 2 }]\nscan = [{ name = \"s1\", bus = \"B1\", network = \"zero\", from = 1, to = 10, threshold = 20, finest = \"0.001\" }]",
         "15 Floating scan 1 bus",
     ),
-    // 2 buses and 63 and 56 inner nodes are one too many, and come before a bus that isn't live.
+    // 2 buses, six times 63 and 21 inner nodes are one too many, and come before a bus that isn't live.
     (
-        "bus = [{ name = \"A\", kv = 10 }, { name = \"K\", kv = 10 }]\nline = [{ name = \"L1\", from = \"A\", to = \"K\", r = 0, x = 1, sections = 64 }, { name = \"L2\", from = \"A\", to = \"K\", r = 0, x = 1, sections = 57 }]",
+        "bus = [{ name = \"A\", kv = 10 }, { name = \"K\", kv = 10 }]\nline = [{ name = \"L1\", from = \"A\", to = \"K\", r = 0, x = 1, sections = 64 }, { name = \"L2\", from = \"A\", to = \"K\", r = 0, x = 1, sections = 64 }, { name = \"L3\", from = \"A\", to = \"K\", r = 0, x = 1, sections = 64 }, { name = \"L4\", from = \"A\", to = \"K\", r = 0, x = 1, sections = 64 }, { name = \"L5\", from = \"A\", to = \"K\", r = 0, x = 1, sections = 64 }, { name = \"L6\", from = \"A\", to = \"K\", r = 0, x = 1, sections = 64 }, { name = \"L7\", from = \"A\", to = \"K\", r = 0, x = 1, sections = 22 }]",
         "12 TooMany network 0 -",
     ),
     // In the zero network alone the nodes are too many.
     (
-        "bus = [{ name = \"A\", kv = 10 }, { name = \"K\", kv = 10 }]\nsource = [{ name = \"S1\", bus = \"K\", r = 0, x = 1 }]\nline = [{ name = \"L1\", from = \"A\", to = \"K\", r = 0, x = 1, r0 = 0, x0 = 1, sections = 64 }, { name = \"L2\", from = \"A\", to = \"K\", r = 0, x = 1, r0 = 0, x0 = 1, sections = 56 }]\ntransformer = [{ name = \"T1\", from = \"A\", to = \"K\", mva = 10, r = 0, x = 10, from_conn = \"grounded\", from_rn = 1, to_conn = \"delta\" }]",
+        "bus = [{ name = \"A\", kv = 10 }, { name = \"K\", kv = 10 }]\nsource = [{ name = \"S1\", bus = \"K\", r = 0, x = 1 }]\nline = [{ name = \"L1\", from = \"A\", to = \"K\", r = 0, x = 1, r0 = 0, x0 = 1, sections = 64 }, { name = \"L2\", from = \"A\", to = \"K\", r = 0, x = 1, r0 = 0, x0 = 1, sections = 64 }, { name = \"L3\", from = \"A\", to = \"K\", r = 0, x = 1, r0 = 0, x0 = 1, sections = 64 }, { name = \"L4\", from = \"A\", to = \"K\", r = 0, x = 1, r0 = 0, x0 = 1, sections = 64 }, { name = \"L5\", from = \"A\", to = \"K\", r = 0, x = 1, r0 = 0, x0 = 1, sections = 64 }, { name = \"L6\", from = \"A\", to = \"K\", r = 0, x = 1, r0 = 0, x0 = 1, sections = 64 }, { name = \"L7\", from = \"A\", to = \"K\", r = 0, x = 1, r0 = 0, x0 = 1, sections = 21 }]\ntransformer = [{ name = \"T1\", from = \"A\", to = \"K\", mva = 10, r = 0, x = 10, from_conn = \"grounded\", from_rn = 1, to_conn = \"delta\" }]",
         "12 TooMany network 0 -",
     ),
 ];

@@ -151,8 +151,8 @@ fn assert_counts(
 }
 
 const BUS_COUNTS: [(&str, u32, &str); 2] = [
-    ("bus", 60, "3 MissingKey bus 1 name"),
-    ("bus", 61, "12 TooMany bus 0 -"),
+    ("bus", 200, "3 MissingKey bus 1 name"),
+    ("bus", 201, "12 TooMany bus 0 -"),
 ];
 
 const COUNTS: [(&str, u32, &str); 12] = [
