@@ -1,5 +1,5 @@
 -- The threshold of a scan over the orders.
-use Rattle.std.specs.Prelude.{◌≡◌, ℕ, pos, ◌-◌, ◌≤◌, List, [], ◌∷◌, length, take, drop, map, replicate, All}
+use Rattle.std.specs.Prelude.{◌≡◌, ℕ, ℤ, pos, ◌-◌, ◌≤◌, ◌≤ℤ◌, List, [], ◌∷◌, ◌++◌, length, take, drop, map, replicate, slice_get, All, IsSomeAnd}
 use Rattle.std.specs.List.Sorted.{IsStrictlyIncreasing}
 use Rattle.study_model.specs.Range.{IsIn}
 use Rattle.study_model.specs.declared.curve.TheConstants.{MAX_CURVE_POINTS}
@@ -14,6 +14,10 @@ no_point = record { at = 0; ohms = 0 }
 -- the points of a curve
 abbrev pub curve_points : Curve → List CurvePoint
 curve_points curve = take curve.len curve.points
+
+-- the curve of at most so many points
+abbrev pub curve_of : List CurvePoint → Curve
+curve_of points = record { len = length points; points = points ++ replicate (MAX_CURVE_POINTS - length points) no_point }
 
 -- the orders of points, in millionths
 abbrev pub curve_orders : List CurvePoint → List ℕ
@@ -40,3 +44,8 @@ pub record IsLawfulCurve (curve : Curve) : Type 0 where
   pub laid_out : IsLaidOut curve
   pub points : All IsLawfulPoint (curve_points curve)
   pub rising : IsStrictlyIncreasing (curve_orders (curve_points curve))
+
+-- points that reach from one order to another: the first is at most the one, and the last at least the other
+pub record Spans (points : List CurvePoint) (from to : ℤ) : Type 0 where
+  pub first : IsSomeAnd (slice_get points 0) (λ (point : CurvePoint). pos point.at ≤ℤ from)
+  pub last : IsSomeAnd (slice_get points (length points - 1)) (λ (point : CurvePoint). to ≤ℤ pos point.at)

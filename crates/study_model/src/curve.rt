@@ -1,5 +1,5 @@
 // The threshold of a scan over the orders.
-ghost use Rattle.study_model.specs.Curve.{curve_points, flat_points, IsLaidOut};
+ghost use Rattle.study_model.specs.Curve.{curve_points, curve_of, flat_points, IsLaidOut};
 
 /// The most points of a curve, which has at least two.
 pub const MAX_CURVE_POINTS: usize = 16;
@@ -24,7 +24,7 @@ pub struct Curve {
 }
 
 impl Curve {
-    ghost use Rattle.std.specs.Prelude.{◌≡◌};
+    ghost use Rattle.std.specs.Prelude.{◌≡◌, ◌≤◌, length};
 
     /// The curve's points.
     pub fn as_points(&self) -> &[CurvePoint]
@@ -34,17 +34,32 @@ impl Curve {
         &self.points[..self.len as usize]
     }
 
+    /// The curve of these points.
+    #[tactic(auto, using(crate::proofs::Curves::none_left))]
+    pub fn of_points(points: &[CurvePoint]) -> Curve
+        requires { length points.now ≤ MAX_CURVE_POINTS }
+        ensures { result ≡ curve_of points.now }
+    {
+        let mut places = [CurvePoint::NONE; MAX_CURVE_POINTS];
+        places[..points.len()].copy_from_slice(points);
+        Curve {
+            len: points.len() as u8,
+            points: places,
+        }
+    }
+
     /// The curve with the same ohms, in millionths, at every order of a band: from 0.1 to 100.
     pub fn flat(ohms: u64) -> Curve
+        ensures is { result ≡ curve_of (flat_points ohms) }
         ensures laid_out { IsLaidOut result }
         ensures points { curve_points result ≡ flat_points ohms }
     {
-        let mut points = [CurvePoint::NONE; MAX_CURVE_POINTS];
-        points[0] = CurvePoint { at: 100_000, ohms };
-        points[1] = CurvePoint {
-            at: 100_000_000,
-            ohms,
-        };
-        Curve { len: 2, points }
+        Curve::of_points(&[
+            CurvePoint { at: 100_000, ohms },
+            CurvePoint {
+                at: 100_000_000,
+                ohms,
+            },
+        ])
     }
 }

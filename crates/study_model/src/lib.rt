@@ -20,4 +20,4 @@ pub use name::{MAX_NAME_LEN, Name};
 pub use range::Range;
 pub use records::{Bank, Bus, Filter, Line, Load, Pcc, ScanItem, Source, Study, Transformer};
 pub use words::{Connection, FilterKind, LoadModel, Method, Phase, Sequence, StudyModel};
-pub use worked::{worked_plant_is_lawful, worked_study_is_lawful};
+pub use worked::{worked_curve_is_lawful, worked_plant_is_lawful, worked_study_is_lawful};
