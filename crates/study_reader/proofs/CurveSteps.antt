@@ -1,5 +1,5 @@
 -- Arrays that are filled place by place.
-use Rattle.std.proofs.Common.{◌≡◌, ◌∙◌, ℕ, ◌+◌, ◌<◌, List, [], ◌∷◌, ◌++◌, length, take, drop, get_or, refl, arith, ap, sym, append_assoc, add-one, drop-cons, slice_set, slice_index_or}
+use Rattle.std.proofs.Common.{◌≡◌, ◌∙◌, ℕ, ◌+◌, ◌<◌, List, ◌∷◌, ◌++◌, length, take, drop, refl, arith, ap, sym, append_assoc, add-one, drop-cons, slice_set, slice_index_or}
 use Rattle.std.proofs.lemmas.List.{take_more_set}
 use Rattle.study_model.specs.declared.curve.CurvePoint.{CurvePoint}
 use Rattle.study_reader.specs.Curves.{points_of}

@@ -1,5 +1,5 @@
 -- The threshold of a scan whose checks find no fault.
-use Rattle.std.proofs.Common.{◌≡◌, ◌∙◌, ◌⊎◌, ℕ, ℤ, pos, zero, suc, ◌+◌, ◌-◌, ◌<◌, ◌≤◌, ◌^◌, nat_eq, nat_lt, nat_le, Bool, true, false, ◌&&◌, if◌then◌else◌, List, [], ◌∷◌, length, Option, Some, None, refl, arith, sym, ap, subst, All, IsSomeAnd, slice_get, get_or}
+use Rattle.std.proofs.Common.{◌≡◌, ◌∙◌, ◌⊎◌, ℕ, ℤ, pos, zero, suc, ◌-◌, ◌<◌, ◌≤◌, ◌^◌, nat_lt, nat_le, Bool, true, false, ◌&&◌, if◌then◌else◌, List, [], ◌∷◌, length, Option, Some, None, refl, arith, sym, ap, subst, All, IsSomeAnd, slice_get}
 use Rattle.std.specs.Prelude.{◌≤ℤ◌, unsigned_abs, slice_index}
 use Rattle.std.specs.List.{AllByRecursion}
 use Rattle.std.specs.List.Sorted.{IsStrictlyIncreasing}
@@ -20,7 +20,7 @@ use Rattle.study_model.specs.declared.fault.StudyFault.TheVariants.{OutOfRange}
 use Rattle.study_model.specs.declared.range.Range.{Range}
 use Rattle.study_model.specs.declared.range.TheConstants.Range.{ABOVE_ZERO, BAND}
 use Rattle.study_model.proofs.Curves.{laid_out, points_back, rising_one, rising_more, flat_lawful, flat_spans}
-use Rattle.study_reader.specs.Checks.{first_fault, unless, key_of, at, decimal_check, decimal_in, decimal_fault, decimal_value}
+use Rattle.study_reader.specs.Checks.{unless, key_of, at, decimal_check, decimal_in, decimal_fault, decimal_value}
 use Rattle.study_reader.specs.Sections.{count_items, items_in}
 use Rattle.study_reader.specs.Curves.{items_fault, millionths_in, length_fault, decimals_found, decimals_fault, decimals_value, is_rising, reach_fault, points_of, curve_fault, curve_value, has_curves, limit_fault, limit}
 use Rattle.study_reader.specs.declared.curves.Limit.{Limit}

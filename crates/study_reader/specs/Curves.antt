@@ -1,5 +1,5 @@
 -- The threshold of a scan: ohms in version 1, and a curve in version 2.
-use Rattle.std.specs.Prelude.{ℕ, ℤ, pos, unsigned_abs, ◌-◌, nat_eq, nat_lt, nat_le, Bool, true, ◌&&◌, if◌then◌else◌, List, [], ◌∷◌, length, take, slice_index, Option, Some, None}
+use Rattle.std.specs.Prelude.{ℕ, ℤ, unsigned_abs, ◌-◌, nat_eq, nat_lt, nat_le, Bool, true, ◌&&◌, if◌then◌else◌, List, [], ◌∷◌, length, take, slice_index, Option, Some, None}
 use Rattle.toml.specs.Data.{Data, Items, no_items, item, string, integer, float, boolean, datetime, array, table}
 use Rattle.study_model.specs.Curve.{curve_of, flat_points}
 use Rattle.study_model.specs.declared.curve.Curve.{Curve}
