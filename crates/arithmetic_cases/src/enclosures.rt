@@ -1,178 +1,150 @@
 // Solutions of one and of two rows by a certified inverse, at scale 40: found by another program and, of one row, by hand.
+ghost use Rattle.plain_elimination.specs.declared.limits.TheConstants.{MAX_SIZE};
+
 use crate::compare::expect;
+use crate::patterns::{Entry, ONE, TWO, UNIT, matrix_of, pattern_of};
+use crate::rectangles::Corners;
 use certified_inverse::{InverseBench, InverseOutcome};
-use complex_interval::{Enclosure, Rect, Span};
-use plain_elimination::Matrix;
+use plain_elimination::MAX_SIZE;
 use std::alloc::Global;
+use std::process::Abort;
 use std::test::Fail;
 
-const UNIT: i64 = 1_099_511_627_776;
+/// The raw value and the error; or what is wrong, with a step or with row sums.
+type Enclosed = Result<(i64, i64, u64), (&'static str, u64)>;
 
-/// The raw ends of a real part, and those of an imaginary one.
-type Cell = [i64; 4];
+const NO_INVERSE: &str = "no inverse";
 
-/// The raw value and the error; a step; row sums; or nothing.
-#[derive(Clone, Copy, PartialEq, Debug)]
-enum Expected {
-    Enclosed(i64, i64, u64),
-    NoInverse(u32),
-    NotContracting(u64),
-    OutOfRange,
-}
+const NOT_CONTRACTING: &str = "not contracting";
 
-fn found(outcome: InverseOutcome) -> Expected {
+const OUT_OF_RANGE: Enclosed = Err(("out of range", 0));
+
+fn told(outcome: InverseOutcome) -> Enclosed {
     match outcome {
-        InverseOutcome::Enclosed { re, im, error } => Expected::Enclosed(re, im, error),
-        InverseOutcome::NoInverse(column) => Expected::NoInverse(column),
-        InverseOutcome::NotContracting(theta) => Expected::NotContracting(theta),
-        InverseOutcome::OutOfRange => Expected::OutOfRange,
+        InverseOutcome::Enclosed { re, im, error } => Ok((re, im, error)),
+        InverseOutcome::NoInverse(column) => Err((NO_INVERSE, u64::from(column))),
+        InverseOutcome::NotContracting(theta) => Err((NOT_CONTRACTING, theta)),
+        InverseOutcome::OutOfRange => OUT_OF_RANGE,
     }
-}
-
-/// The number of these multiples of 1 alone.
-const fn whole(re: i8, im: i8) -> Cell {
-    let re = re as i64 * UNIT;
-    let im = im as i64 * UNIT;
-    [re, re, im, im]
-}
-
-/// A real number, 1/64 more and less.
-const fn about(re: i8) -> Cell {
-    let re = re as i64 * UNIT;
-    [re - UNIT / 64, re + UNIT / 64, 0, 0]
-}
-
-fn entry([re_low, re_high, im_low, im_high]: Cell) -> Result<Rect<Span<40>>, Fail> {
-    let re = Span::from_ends(re_low, re_high).ok_or("out of range")?;
-    let im = Span::from_ends(im_low, im_high).ok_or("out of range")?;
-    Ok(Rect { re, im })
-}
-
-/// Sets an entry, if the matrix has it.
-fn set(matrix: &mut Matrix<Span<40>>, row: u32, column: u32, cell: Cell) -> Result<(), Fail> {
-    if row < matrix.size() && column < matrix.size() {
-        matrix.set(row, column, entry(cell)?);
-    }
-    Ok(())
-}
-
-/// A matrix of one entry or of two rows, which has the first of these cells.
-fn matrix_of(alloc: Global, size: u32, cells: [Cell; 4]) -> Result<Matrix<Span<40>>, Fail> {
-    let mut matrix = Matrix::new(alloc, size.min(2))?;
-    for (row, column, cell) in [
-        (0, 0, cells[0]),
-        (0, 1, cells[1]),
-        (1, 0, cells[2]),
-        (1, 1, cells[3]),
-    ] {
-        set(&mut matrix, row, column, cell)?;
-    }
-    Ok(matrix)
 }
 
 /// The outcomes at the first and at the last column, on one bench.
-fn outcomes(alloc: Global, size: u32, cells: [Cell; 4]) -> Result<[Expected; 2], Fail> {
-    let matrix = matrix_of(alloc, size, cells)?;
-    let size = matrix.size();
-    if size < 1 || 2 < size {
-        return Err("neither one row nor two".into());
-    }
+fn outcomes(
+    rt: &impl Abort,
+    alloc: Global,
+    size: u32,
+    entries: &[Entry],
+) -> Result<(Enclosed, Enclosed), Fail> {
+    assert!(rt; 1 <= size && size <= MAX_SIZE);
+    let pattern = pattern_of(alloc, size, entries)?;
+    let matrix = matrix_of(alloc, &pattern, entries)?;
     let mut bench = InverseBench::new(alloc, size)?;
-    let first = found(bench.enclose(&matrix, 0));
-    let last = found(bench.enclose(&matrix, size - 1));
-    Ok([first, last])
+    let first = told(bench.enclose(&matrix, 0));
+    let last = told(bench.enclose(&matrix, size - 1));
+    Ok((first, last))
 }
+
+const MINUS_ONE: Corners = [-UNIT, -UNIT, 0, 0];
+
+const MINUS_SEVEN: Corners = [-7 * UNIT, -7 * UNIT, 0, 0];
+
+/// 1, 2 and 3, each 1/64 more and less.
+const ABOUT_ONE: Corners = [UNIT - UNIT / 64, UNIT + UNIT / 64, 0, 0];
+
+const ABOUT_TWO: Corners = [2 * UNIT - UNIT / 64, 2 * UNIT + UNIT / 64, 0, 0];
+
+const ABOUT_THREE: Corners = [3 * UNIT - UNIT / 64, 3 * UNIT + UNIT / 64, 0, 0];
 
 #[test]
 fn first_and_last_columns(rt: HostRuntime) -> Result<(), Fail> {
-    let cases = [
-        ("zero", 1, [[0, 0, 0, 0]; 4], [Expected::NoInverse(1); 2]),
+    let cases: [(&str, u32, &[Entry], [Enclosed; 2]); 12] = [
+        ("zero", 1, &[], [Err((NO_INVERSE, 1)); 2]),
         (
             "row sums of 1",
             1,
-            [[0, 2 * UNIT, 0, 0]; 4],
-            [Expected::NotContracting(1_099_511_627_776); 2],
+            &[(0, 0, [0, 2 * UNIT, 0, 0])],
+            [Err((NOT_CONTRACTING, 1_099_511_627_776)); 2],
         ),
-        (
-            "exact",
-            1,
-            [[2 * UNIT, 2 * UNIT, 0, 0]; 4],
-            [Expected::Enclosed(549_755_813_888, 0, 0); 2],
-        ),
+        ("exact", 1, &[(0, 0, TWO)], [Ok((549_755_813_888, 0, 0)); 2]),
         (
             "1 to 1.5",
             1,
-            [[UNIT, 3 * UNIT / 2, 0, 0]; 4],
-            [Expected::Enclosed(879_609_302_220, 0, 219_902_325_557); 2],
+            &[(0, 0, [UNIT, 3 * UNIT / 2, 0, 0])],
+            [Ok((879_609_302_220, 0, 219_902_325_557)); 2],
         ),
         (
             "row sums just below 1, and an error above the range",
             1,
-            [[1, 2 * UNIT - 1, 0, 0]; 4],
-            [Expected::OutOfRange; 2],
+            &[(0, 0, [1, 2 * UNIT - 1, 0, 0])],
+            [OUT_OF_RANGE; 2],
         ),
         (
             "an inverse above the range",
             1,
-            [[1, 1, 0, 0]; 4],
-            [Expected::OutOfRange; 2],
+            &[(0, 0, [1, 1, 0, 0])],
+            [OUT_OF_RANGE; 2],
         ),
         (
             "imaginary",
             1,
-            [[0, 0, 2 * UNIT, 2 * UNIT]; 4],
-            [Expected::Enclosed(0, -549_755_813_888, 0); 2],
+            &[(0, 0, [0, 0, 2 * UNIT, 2 * UNIT])],
+            [Ok((0, -549_755_813_888, 0)); 2],
         ),
         (
             "rows that change places",
             2,
-            [whole(0, 0), whole(1, 0), whole(1, 0), whole(2, 0)],
-            [
-                Expected::Enclosed(-2_199_023_255_552, 0, 0),
-                Expected::Enclosed(0, 0, 0),
-            ],
+            &[(0, 1, ONE), (1, 0, ONE), (1, 1, TWO)],
+            [Ok((-2_199_023_255_552, 0, 0)), Ok((0, 0, 0))],
         ),
         (
             "no pivot in the second column",
             2,
-            [whole(1, 0), whole(1, 0), whole(1, 0), whole(1, 0)],
-            [Expected::NoInverse(2), Expected::NoInverse(2)],
+            &[(0, 0, ONE), (0, 1, ONE), (1, 0, ONE), (1, 1, ONE)],
+            [Err((NO_INVERSE, 2)); 2],
         ),
         (
             "the first of two pivots of one size",
             2,
-            [whole(1, 0), whole(-7, 0), whole(-1, 0), whole(-7, 0)],
-            [
-                Expected::Enclosed(549_755_813_882, 0, 8),
-                Expected::Enclosed(-78_536_544_842, 0, 8),
+            &[
+                (0, 0, ONE),
+                (0, 1, MINUS_SEVEN),
+                (1, 0, MINUS_ONE),
+                (1, 1, MINUS_SEVEN),
             ],
+            [Ok((549_755_813_882, 0, 8)), Ok((-78_536_544_842, 0, 8))],
         ),
         (
             "wide entries",
             2,
-            [about(2), about(1), about(1), about(3)],
+            &[
+                (0, 0, ABOUT_TWO),
+                (0, 1, ABOUT_ONE),
+                (1, 0, ABOUT_ONE),
+                (1, 1, ABOUT_THREE),
+            ],
             [
-                Expected::Enclosed(659_706_976_666, 0, 11_277_042_338),
-                Expected::Enclosed(439_804_651_110, 0, 8_457_781_754),
+                Ok((659_706_976_666, 0, 11_277_042_338)),
+                Ok((439_804_651_110, 0, 8_457_781_754)),
             ],
         ),
         (
             "complex entries",
             2,
-            [
-                whole(1, 1),
-                whole(1, 0),
-                whole(1, 0),
-                [UNIT, UNIT, -UNIT, -UNIT + UNIT / 32],
+            &[
+                (0, 0, [UNIT, UNIT, UNIT, UNIT]),
+                (0, 1, ONE),
+                (1, 0, ONE),
+                (1, 1, [UNIT, UNIT, -UNIT, -UNIT + UNIT / 32]),
             ],
             [
-                Expected::Enclosed(1_099_234_672_707, -1_116_959_797_184, 37_184_028_048),
-                Expected::Enclosed(1_134_407_966_592, 1_098_957_717_636, 73_206_055_212),
+                Ok((1_099_234_672_707, -1_116_959_797_184, 37_184_028_048)),
+                Ok((1_134_407_966_592, 1_098_957_717_636, 73_206_055_212)),
             ],
         ),
     ];
-    for (label, size, cells, expected) in cases {
-        expect(&rt, outcomes(rt.alloc(), size, cells)?, expected, label);
+    for (label, size, entries, wanted) in cases {
+        let found = outcomes(&rt, rt.alloc(), size, entries)?;
+        expect(&rt, found, (wanted[0], wanted[1]), label);
     }
     Ok(())
 }

@@ -1,38 +1,41 @@
-// Sparse rows that were worked by hand, and many of them: each matrix is reduced or solved on a bench and in full, with one answer.
+// Rows that were worked by hand, and many of them, at scale 40: each matrix is reduced or solved on a bench and in full, with one answer.
 ghost use Rattle.std.specs.Prelude.{◌≡◌, ◌≤◌, IfOk, length};
 ghost use Rattle.plain_elimination.specs.declared.limits.TheConstants.{MAX_SIZE};
 
 use crate::compare::expect;
-use crate::patterns::{Entry, UNIT, matrix_of, pattern_of, real};
-use complex_interval::{Enclosure, Rect, Span};
+use crate::patterns::{Entry, ONE, TWO, UNIT, matrix_of, pattern_of};
+use crate::rectangles::{Corners, corners, rectangle};
+use complex_interval::{Rect, Span};
 use plain_elimination::{Column, Failure, MAX_SIZE, reduce_to_last, solve};
 use sparse_rows::SparseBench;
 use std::alloc::Global;
 use std::process::Abort;
 use std::test::Fail;
 
-/// The raw ends of the real and of the imaginary part; a step whose pivot holds zero; a step that is out of range.
-#[derive(Clone, Copy, PartialEq, Debug)]
-enum Found {
-    Value([i64; 4]),
-    Held(u32),
-    Beyond(u32),
-}
+/// What is wrong at a step.
+type Cause = (&'static str, u32);
 
-fn ends(x: Rect<Span<40>>) -> [i64; 4] {
-    [x.re.low(), x.re.high(), x.im.low(), x.im.high()]
-}
+type Answer = Result<Corners, Cause>;
 
-fn told(answer: Result<Rect<Span<40>>, Failure>) -> Found {
-    match answer {
-        Ok(value) => Found::Value(ends(value)),
-        Err(Failure::PivotHoldsZero(step)) => Found::Held(step),
-        Err(Failure::OutOfRange(step)) => Found::Beyond(step),
+/// The first and the last unknown.
+type Solved = Result<[Corners; 2], Cause>;
+
+const HELD: &str = "the pivot holds zero";
+
+const BEYOND: &str = "out of range";
+
+fn cause(failure: Failure) -> Cause {
+    match failure {
+        Failure::PivotHoldsZero(step) => (HELD, step),
+        Failure::OutOfRange(step) => (BEYOND, step),
     }
 }
 
-const fn value(low: i64, high: i64) -> Found {
-    Found::Value([low, high, 0, 0])
+fn told(answer: Result<Rect<Span<40>>, Failure>) -> Answer {
+    match answer {
+        Ok(value) => Ok(corners(value)),
+        Err(failure) => Err(cause(failure)),
+    }
 }
 
 /// Reduces the matrix twice on a bench and then in full.
@@ -41,137 +44,207 @@ fn reduced(
     alloc: Global,
     size: u32,
     entries: &[Entry],
-) -> Result<[Found; 3], Fail> {
+) -> Result<(Answer, Answer, Answer), Fail> {
     assert!(rt; 1 <= size && size <= MAX_SIZE);
     let pattern = pattern_of(alloc, size, entries)?;
     let mut bench = SparseBench::new(alloc, &pattern)?;
     let mut matrix = matrix_of(alloc, &pattern, entries)?;
     let first = told(bench.reduce(&matrix));
     let again = told(bench.reduce(&matrix));
-    Ok([first, again, told(reduce_to_last(&mut matrix))])
+    Ok((first, again, told(reduce_to_last(&mut matrix))))
 }
 
-/// The right side with 1 in the last row.
-fn unit_column(alloc: Global, size: u32) -> Result<Column<Span<40>>, Fail>
-    requires some { 1 ≤ size }
-    requires few { size ≤ MAX_SIZE }
-    ensures { IfOk result (λ c. length c ≡ size) }
-{
-    let mut column = Column::new(alloc, size)?;
-    column.set(size - 1, real(UNIT, UNIT)?);
-    Ok(column)
-}
+const FOUR: Corners = [4 * UNIT, 4 * UNIT, 0, 0];
 
-/// The first unknown with that right side, solved on a bench and then in full.
-fn solved(
-    rt: &impl Abort,
-    alloc: Global,
-    size: u32,
-    entries: &[Entry],
-) -> Result<[Found; 2], Fail> {
-    assert!(rt; 1 <= size && size <= MAX_SIZE);
-    let pattern = pattern_of(alloc, size, entries)?;
-    let mut bench = SparseBench::new(alloc, &pattern)?;
-    let mut matrix = matrix_of(alloc, &pattern, entries)?;
-    let mut right = unit_column(alloc, size)?;
-    let answer = bench.solve(&matrix, &mut right);
-    let on_bench = told(answer.map(|_| right.get(0)));
-    let mut full = unit_column(alloc, size)?;
-    let answer = solve(&mut matrix, &mut full);
-    Ok([on_bench, told(answer.map(|_| full.get(0)))])
-}
+const AROUND_ZERO: Corners = [-1, 1, 0, 0];
 
-const ONE: [i64; 2] = [UNIT, UNIT];
+/// The greatest number in range, 2^22.
+const GREATEST: Corners = [4_611_686_018_427_387_904, 4_611_686_018_427_387_904, 0, 0];
 
-const FOUR: [i64; 2] = [4 * UNIT, 4 * UNIT];
-
-const AROUND_ZERO: [i64; 2] = [-1, 1];
-
-const GREATEST: [i64; 2] = [4_611_686_018_427_387_904, 4_611_686_018_427_387_904];
-
-// The first row and the first column are 1, and the diagonal behind them is 4.
-const STAR: [Entry; 7] = [
-    (0, 0, ONE),
-    (0, 1, ONE),
-    (0, 2, ONE),
-    (1, 0, ONE),
-    (2, 0, ONE),
-    (1, 1, FOUR),
-    (2, 2, FOUR),
-];
-
-// A matrix by its entries, and how its reduction or its solution ends.
-type Case<'a> = (&'a str, u32, &'a [Entry], Found);
+const NOUGHT: Corners = [0, 0, 0, 0];
 
 #[test]
 fn rows_are_reduced(rt: HostRuntime) -> Result<(), Fail> {
-    let cases: [Case<'_>; 7] = [
-        (
-            "the first row fills the others",
-            3,
-            &STAR,
-            value(2_932_031_007_402, 2_932_031_007_403),
-        ),
+    let cases: [(&str, u32, &[Entry], Answer); 12] = [
+        ("one entry", 1, &[(0, 0, TWO)], Ok(TWO)),
         (
             "one entry is not tested",
             1,
             &[(0, 0, AROUND_ZERO)],
-            value(-1, 1),
-        ),
-        (
-            "a row that begins with zero stays",
-            2,
-            &[(0, 0, ONE), (0, 1, GREATEST), (1, 0, [0, 0]), (1, 1, ONE)],
-            value(UNIT, UNIT),
+            Ok(AROUND_ZERO),
         ),
         (
             "a place that is named twice",
             1,
             &[(0, 0, FOUR), (0, 0, ONE)],
-            value(UNIT, UNIT),
+            Ok(ONE),
+        ),
+        (
+            "2 - 1/2",
+            2,
+            &[(0, 0, TWO), (0, 1, ONE), (1, 0, ONE), (1, 1, TWO)],
+            Ok([1_649_267_441_664, 1_649_267_441_664, 0, 0]),
+        ),
+        (
+            "a row that begins with zero stays",
+            2,
+            &[(0, 0, ONE), (0, 1, GREATEST), (1, 0, NOUGHT), (1, 1, ONE)],
+            Ok(ONE),
+        ),
+        (
+            "whatever stands over its last entry",
+            2,
+            &[(0, 0, TWO), (0, 1, GREATEST), (1, 0, NOUGHT), (1, 1, ONE)],
+            Ok(ONE),
+        ),
+        // the first row and the first column are 1, and the diagonal behind them is 4
+        (
+            "the first row fills the others",
+            3,
+            &[
+                (0, 0, ONE),
+                (0, 1, ONE),
+                (0, 2, ONE),
+                (1, 0, ONE),
+                (2, 0, ONE),
+                (1, 1, FOUR),
+                (2, 2, FOUR),
+            ],
+            Ok([2_932_031_007_402, 2_932_031_007_403, 0, 0]),
         ),
         (
             "a pivot outside the pattern",
             2,
             &[(1, 1, ONE)],
-            Found::Held(1),
+            Err((HELD, 1)),
+        ),
+        (
+            "a pivot of zero",
+            2,
+            &[(0, 0, NOUGHT), (0, 1, ONE), (1, 0, ONE), (1, 1, ONE)],
+            Err((HELD, 1)),
         ),
         (
             "a pivot holds zero",
             2,
             &[(0, 0, AROUND_ZERO), (0, 1, ONE), (1, 1, ONE)],
-            Found::Held(1),
+            Err((HELD, 1)),
         ),
         (
             "a product out of range",
             2,
             &[(0, 0, ONE), (0, 1, GREATEST), (1, 0, FOUR), (1, 1, ONE)],
-            Found::Beyond(1),
+            Err((BEYOND, 1)),
+        ),
+        (
+            "a smaller product out of range",
+            2,
+            &[(0, 0, ONE), (0, 1, GREATEST), (1, 0, TWO), (1, 1, ONE)],
+            Err((BEYOND, 1)),
         ),
     ];
     for (label, size, entries, wanted) in cases {
         let found = reduced(&rt, rt.alloc(), size, entries)?;
-        expect(&rt, found, [wanted; 3], label);
+        expect(&rt, found, (wanted, wanted, wanted), label);
     }
     Ok(())
 }
 
+/// A right side that is zero but for its first and its last row.
+fn column_of(alloc: Global, size: u32, right: [Corners; 2]) -> Result<Column<Span<40>>, Fail>
+    requires some { 1 ≤ size }
+    requires few { size ≤ MAX_SIZE }
+    ensures { IfOk result (λ c. length c ≡ size) }
+{
+    let [first, last] = right;
+    let first = rectangle(first)?;
+    let last = rectangle(last)?;
+    let mut column = Column::new(alloc, size)?;
+    column.set(0, first);
+    column.set(size - 1, last);
+    Ok(column)
+}
+
+fn unknowns(answer: Result<(), Failure>, column: &Column<Span<40>>, size: u32) -> Solved
+    requires some { 1 ≤ size }
+    requires sizes { length column.now ≡ size }
+{
+    match answer {
+        Ok(()) => Ok([corners(column.get(0)), corners(column.get(size - 1))]),
+        Err(failure) => Err(cause(failure)),
+    }
+}
+
+/// Solves with that right side on a bench and then in full.
+fn solved(
+    rt: &impl Abort,
+    alloc: Global,
+    size: u32,
+    entries: &[Entry],
+    right: [Corners; 2],
+) -> Result<(Solved, Solved), Fail> {
+    assert!(rt; 1 <= size && size <= MAX_SIZE);
+    let pattern = pattern_of(alloc, size, entries)?;
+    let mut bench = SparseBench::new(alloc, &pattern)?;
+    let mut matrix = matrix_of(alloc, &pattern, entries)?;
+    let mut column = column_of(alloc, size, right)?;
+    let answer = bench.solve(&matrix, &mut column);
+    let on_bench = unknowns(answer, &column, size);
+    let mut full = column_of(alloc, size, right)?;
+    let answer = solve(&mut matrix, &mut full);
+    Ok((on_bench, unknowns(answer, &full, size)))
+}
+
+const HALF: Corners = [UNIT / 2, UNIT / 2, 0, 0];
+
+const QUARTER: Corners = [UNIT / 4, UNIT / 4, 0, 0];
+
+const THIRD: Corners = [366_503_875_925, 366_503_875_926, 0, 0];
+
+// 4x = 1; 2x = 1; 2x + y = 2 and x + 2y = 5/2; the last pivot is 1 - 1; y = 2^22 in x + 2y = 0 leaves the range at row 1, and so does
+// twice as much in x + 2^22 y = 0.
 #[test]
 fn systems_are_solved(rt: HostRuntime) -> Result<(), Fail> {
-    let cases: [Case<'_>; 4] = [
-        ("a quarter", 1, &[(0, 0, FOUR)], value(UNIT / 4, UNIT / 4)),
+    let unit = [NOUGHT, ONE];
+    let cases: [(&str, u32, &[Entry], [Corners; 2], Solved); 8] = [
+        ("a quarter", 1, &[(0, 0, FOUR)], unit, Ok([QUARTER; 2])),
+        ("a half", 1, &[(0, 0, TWO)], unit, Ok([HALF; 2])),
         (
-            "the last pivot is tested",
+            "the only pivot is tested",
             1,
             &[(0, 0, AROUND_ZERO)],
-            Found::Held(1),
+            unit,
+            Err((HELD, 1)),
         ),
         (
-            "out of range on the way back",
+            "two unknowns",
             2,
-            &[(0, 0, ONE), (0, 1, GREATEST), (1, 1, [UNIT / 2, UNIT / 2])],
-            Found::Beyond(1),
+            &[(0, 0, TWO), (0, 1, ONE), (1, 0, ONE), (1, 1, TWO)],
+            [TWO, [2_748_779_069_440, 2_748_779_069_440, 0, 0]],
+            Ok([HALF, ONE]),
         ),
+        (
+            "the last pivot",
+            2,
+            &[(0, 0, ONE), (0, 1, ONE), (1, 0, ONE), (1, 1, ONE)],
+            [ONE, ONE],
+            Err((HELD, 2)),
+        ),
+        (
+            "the way back",
+            2,
+            &[(0, 0, ONE), (0, 1, TWO), (1, 0, NOUGHT), (1, 1, ONE)],
+            [NOUGHT, GREATEST],
+            Err((BEYOND, 1)),
+        ),
+        (
+            "a great factor on the way back",
+            2,
+            &[(0, 0, ONE), (0, 1, GREATEST), (1, 1, HALF)],
+            unit,
+            Err((BEYOND, 1)),
+        ),
+        // a third, its negative and a third
         (
             "a chain",
             3,
@@ -179,17 +252,18 @@ fn systems_are_solved(rt: HostRuntime) -> Result<(), Fail> {
                 (0, 0, ONE),
                 (0, 1, ONE),
                 (1, 0, ONE),
-                (1, 1, [2 * UNIT, 2 * UNIT]),
+                (1, 1, TWO),
                 (1, 2, ONE),
                 (2, 1, ONE),
                 (2, 2, FOUR),
             ],
-            value(366_503_875_925, 366_503_875_926),
+            unit,
+            Ok([THIRD; 2]),
         ),
     ];
-    for (label, size, entries, wanted) in cases {
-        let found = solved(&rt, rt.alloc(), size, entries)?;
-        expect(&rt, found, [wanted; 2], label);
+    for (label, size, entries, right, wanted) in cases {
+        let found = solved(&rt, rt.alloc(), size, entries, right)?;
+        expect(&rt, found, (wanted, wanted), label);
     }
     Ok(())
 }
