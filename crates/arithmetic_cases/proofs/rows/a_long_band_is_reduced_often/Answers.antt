@@ -1,4 +1,4 @@
-use Rattle.sparse_cases.proofs.rows.a_long_band_is_reduced_often.Goals as goal
+use Rattle.arithmetic_cases.proofs.rows.a_long_band_is_reduced_often.Goals as goal
 
 pub reduce-requires-clause-outside : goal.reduce-requires-clause-outside
 reduce-requires-clause-outside g c = rw c.in_ok-bench.ensures c.in_ok-matrix.ensures.zeros

@@ -1,6 +1,6 @@
 use Rattle.std.proofs.Common.{refl, subst, ◌<◌, ◌∙◌}
-use Rattle.sparse_cases.proofs.Entries.{entry_nought, not_before}
-use Rattle.sparse_cases.proofs.building.matrix_of.Goals as goal
+use Rattle.arithmetic_cases.proofs.Entries.{entry_nought, not_before}
+use Rattle.arithmetic_cases.proofs.patterns.matrix_of.Goals as goal
 
 pub set_at-requires-clause-inside : goal.set_at-requires-clause-inside
 set_at-requires-clause-inside c = rw (c.as_slice.ensures.value, c.loop-i.invariant.size) c.requires.inside

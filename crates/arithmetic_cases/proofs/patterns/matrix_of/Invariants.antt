@@ -1,6 +1,6 @@
 use Rattle.std.proofs.Common.{◌≡◌, take}
 use Rattle.plain_elimination.specs.Pattern.{IsZeroOutside}
-use Rattle.sparse_cases.proofs.building.matrix_of.Given as goal
+use Rattle.arithmetic_cases.proofs.patterns.matrix_of.Given as goal
 
 abbrev pub invariant-loop-i : goal.invariant-loop-i
 invariant-loop-i l = record {

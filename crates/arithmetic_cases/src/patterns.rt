@@ -1,25 +1,25 @@
-// Matrices of a pattern.
+// Matrices by their entries.
 ghost use Rattle.std.specs.Prelude.{◌≡◌, ℕ, ◌+◌, ◌<◌, ◌≤◌, IfOk, length, take};
 ghost use Rattle.plain_elimination.specs.Matrix.{entry};
 ghost use Rattle.plain_elimination.specs.Pattern.{AreInside, IsNoPlace, IsZeroOutside};
 ghost use Rattle.plain_elimination.specs.declared.limits.TheConstants.{MAX_SIZE};
 
-use complex_interval::{Enclosure, Rect, Span};
+use crate::compare::expect;
+use crate::rectangles::{Corners, corners, rectangle};
+use complex_interval::{Rect, Span};
 use plain_elimination::{Matrix, Pattern, Spot};
 use std::alloc::Global;
 use std::test::Fail;
 
 pub const UNIT: i64 = 1_099_511_627_776;
 
-/// A row and a column, and the raw ends of the real part there.
-pub type Entry = (u32, u32, [i64; 2]);
+/// The raw ends of the number 1.
+pub const ONE: Corners = [UNIT, UNIT, 0, 0];
 
-/// The real numbers between these raw ends.
-pub fn real(low: i64, high: i64) -> Result<Rect<Span<40>>, Fail> {
-    let re = Span::from_ends(low, high).ok_or("out of range")?;
-    let im = Span::from_ends(0, 0).ok_or("out of range")?;
-    Ok(Rect { re, im })
-}
+pub const TWO: Corners = [2 * UNIT, 2 * UNIT, 0, 0];
+
+/// A row and a column, and what stands there.
+pub type Entry = (u32, u32, Corners);
 
 /// The pattern of these entries.
 pub fn pattern_of(alloc: Global, size: u32, entries: &[Entry]) -> Result<Pattern, Fail>
@@ -27,7 +27,7 @@ pub fn pattern_of(alloc: Global, size: u32, entries: &[Entry]) -> Result<Pattern
     ensures inside { IfOk result (λ p. AreInside size p.places.items) }
 {
     let mut places = Vec::new(alloc);
-    for (row, column, _ends) in entries {
+    for (row, column, _corners) in entries {
         let row = Some(*row).filter(|r| *r < size).ok_or("outside")?;
         let column = Some(*column).filter(|c| *c < size).ok_or("outside")?;
         places.push(Spot { row, column })?;
@@ -59,9 +59,24 @@ pub fn matrix_of(
 {
     let mut matrix = Matrix::new(alloc, pattern.size)?;
     for i in 0..pattern.places.len() {
-        let (_, _, [low, high]) = *entries.get(i).ok_or("no value")?;
-        let value = real(low, high)?;
+        let (_, _, corners) = *entries.get(i).ok_or("no value")?;
+        let value = rectangle(corners)?;
         set_at(&mut matrix, pattern.places.as_slice(), i, value);
     }
     Ok(matrix)
+}
+
+// The entry that was set, and another one.
+#[test]
+fn an_entry_is_set(rt: HostRuntime) -> Result<(), Fail> {
+    let one = rectangle(ONE)?;
+    let mut matrix: Matrix<Span<40>> = Matrix::new(rt.alloc(), 3)?;
+    matrix.set(2, 1, one);
+    let found = (
+        matrix.size(),
+        corners(matrix.get(2, 1)),
+        corners(matrix.get(1, 2)),
+    );
+    expect(&rt, found, (3, ONE, [0, 0, 0, 0]), "the entries");
+    Ok(())
 }
