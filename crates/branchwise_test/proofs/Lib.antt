@@ -1,0 +1,6 @@
+pub mod Zips
+pub mod Rows
+pub mod Branches
+pub mod Middles
+pub mod Counts
+pub mod Main

@@ -1,0 +1,5 @@
+pub mod Drops
+pub mod Sizes
+pub mod Reach
+pub mod Enclosed
+pub mod Holds
