@@ -4,3 +4,4 @@ pub mod Branches
 pub mod Middles
 pub mod Counts
 pub mod Main
+pub mod Worked

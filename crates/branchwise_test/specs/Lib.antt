@@ -3,3 +3,4 @@ pub mod Sizes
 pub mod Reach
 pub mod Enclosed
 pub mod Holds
+pub mod Worked

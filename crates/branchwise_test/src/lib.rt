@@ -3,6 +3,7 @@
 
 ghost use Rattle.std.specs.Prelude.{ℕ};
 ghost use Rattle.branchwise_test.specs.Holds.{ImpedanceIsNear};
+ghost use Rattle.branchwise_test.specs.Worked.{WorkedEstimates};
 
 mod fault;
 
@@ -12,4 +13,9 @@ pub use fault::BranchwiseFault;
 /// impedance exists, is the only one, and lies within the error of a number that the estimate holds.
 pub fn impedance_is_near()
     ensures law { (s : ℕ) → ImpedanceIsNear s }
+{}
+
+/// Estimates of small networks, worked by hand.
+pub fn worked_estimates()
+    ensures law { WorkedEstimates }
 {}
