@@ -14,6 +14,7 @@ use Rattle.certified_inverse.specs.Certificate.{in_size, ceil_over}
 use Rattle.certified_inverse.proofs.Raw.{ceil_over-enough}
 use Rattle.admittance_box.specs.Addends.{PlacedTap}
 use Rattle.admittance_box.specs.Places.{place_of}
+use Rattle.admittance_box.specs.Steps.{◌>>=◌}
 use Rattle.admittance_box.proofs.HeldEntries.{some_suc}
 use Rattle.admittance_box.proofs.HeldPairs.{HoldsTap}
 use Rattle.admittance_box.proofs.Steps.{bind-some}
@@ -24,11 +25,14 @@ use Rattle.branchwise_laws.specs.Places.{place, NodesFirst}
 use Rattle.branchwise_laws.specs.Wholes.{rounded_up, count_at, WholeSizes, node_up, edge_up as edge_of, far_up, reach_up, PassesWhole}
 use Rattle.branchwise_test.specs.Drops.{DropEnds}
 use Rattle.branchwise_test.specs.Sizes.{Bounds}
-use Rattle.branchwise_test.specs.Reach.{products_up, edge_up, Reached, reach, weights_over, theta_over, Contraction, contraction}
+use Rattle.branchwise_test.specs.Reach.{add_up, products_from, edge_from as edge_up, Reached, reach, weights_over, theta_over, Contraction, contraction}
 use Rattle.branchwise_test.proofs.Zips.{same_length, each_below, zip_got, each_got, each_length, each_two_got, each_two_length, get_or-map, got}
 use Rattle.branchwise_test.proofs.Middles.{kept_is}
 
 -- ---- sums
+same_value : {X : Type 0} (a b : X) → Some a ≡ Some b → a ≡ b
+same_value a b e = cc
+
 ceil-rounded : (a b : ℕ) → rounded_up a b ≡ ceil_over a b
 unfolding ceil_over
 ceil-rounded a b = refl
@@ -37,15 +41,20 @@ count_same : {X : Type 0} (f g : ℕ → X → ℕ) (xs : List X) → EachAt (λ
 count_same f g [] h = refl
 count_same f g (x ∷ xs) h = omega (arith, h.0, count_same (λ j. f (suc j)) (λ j. g (suc j)) xs h.1)
 
-products_count : {X : Type 0} (s : ℕ) (xs : List X) (es vs : List ℕ) → length es ≡ length xs → length xs ≤ length vs → count_at (λ j x. rounded_up (get_or es j 0 * get_or vs j 0) (2 ^ s)) xs ≡ products_up s es vs
-products_count s [] [] vs l m = refl
-products_count s [] (e ∷ es) vs l m = absurd (omega arith)
-products_count s (x ∷ xs) [] vs l m = absurd (omega arith)
-products_count s (x ∷ xs) (e ∷ es) [] l m = absurd (omega arith)
-products_count s (x ∷ xs) (e ∷ es) (v ∷ vs) l m =
-    let h = products_count s xs es vs (omega arith) (omega arith) in
-    let k = ceil-rounded (e * v) (2 ^ s) in
-    omega (arith, h, k)
+add_up_is : (s sum e v r : ℕ) → add_up s sum e v ≡ Some r → sum + rounded_up (e * v) (2 ^ s) ≡ r
+add_up_is s sum e v r h = let k = kept_is _ _ h in let q = ceil-rounded (e * v) (2 ^ s) in omega (arith, k, q)
+
+products_are : {X : Type 0} (s : ℕ) (xs : List X) (es vs : List ℕ) (sum r : ℕ) → length es ≡ length xs → length xs ≤ length vs → products_from s sum es vs ≡ Some r
+    → sum + count_at (λ j x. rounded_up (get_or es j 0 * get_or vs j 0) (2 ^ s)) xs ≡ r
+products_are s [] [] vs sum r l m e = let q : sum ≡ r = same_value _ _ e in omega (arith, q)
+products_are s [] (e ∷ es) vs sum r l m h = absurd (omega arith)
+products_are s (x ∷ xs) [] vs sum r l m h = absurd (omega arith)
+products_are s (x ∷ xs) (e ∷ es) [] sum r l m h = absurd (omega arith)
+products_are s (x ∷ xs) (e ∷ es) (v ∷ vs) sum r l m h =
+    let (more, h1, h2) = bind-some (add_up s sum e v) (λ more. products_from s more es vs) r h in
+    let one = add_up_is s sum e v more h1 in
+    let rest = products_are s xs es vs more r (omega arith) (omega arith) h2 in
+    omega (arith, one, rest)
 
 -- ---- places
 pub place_is : (ordering : List ℕ) (n i : ℕ) → place_of ordering n ≡ Some i → (place ordering n ≡ i) × (i < length ordering)
@@ -123,17 +132,20 @@ module _ (s : ℕ) (ordering : List ℕ) (links : List Link) (drops : List DropE
     all : (i : ℕ) → i < length links → reach_from vs i (get_or links i no_link).taps ≡ get_or r.all i 0
     count : length r.all ≡ length links
 
-  edge_count : (N : ℕ → ℕ) (ns : List ℕ) → ((i : ℕ) → i < length ordering → N i ≡ get_or ns i 0) → (ps : List PlacedTap) (ts : List Tap) → AllZip (HoldsTap s ordering) ps ts
-      → count_at (λ p t. rounded_up (get_or (map (λ (t : PlacedTap). mag_of t.ratio) ps) p 0 * N (place ordering t.node)) (2 ^ s)) ts ≡ edge_up s ps ns
-  edge_count N ns h [] [] z = refl
-  edge_count N ns h [] (t ∷ ts) z = absurd z
-  edge_count N ns h (p ∷ ps) [] z = absurd z
-  edge_count N ns h (p ∷ ps) (t ∷ ts) z =
+  edge_is : (N : ℕ → ℕ) (ns : List ℕ) → ((i : ℕ) → i < length ordering → N i ≡ get_or ns i 0) → (ps : List PlacedTap) (ts : List Tap) → AllZip (HoldsTap s ordering) ps ts → (sum r : ℕ) → edge_up s sum ps ns ≡ Some r
+      → sum + count_at (λ p t. rounded_up (get_or (map (λ (t : PlacedTap). mag_of t.ratio) ps) p 0 * N (place ordering t.node)) (2 ^ s)) ts ≡ r
+  edge_is N ns h [] [] z sum r e = let q : sum ≡ r = same_value _ _ e in omega (arith, q)
+  edge_is N ns h [] (t ∷ ts) z sum r e = absurd z
+  edge_is N ns h (p ∷ ps) [] z sum r e = absurd z
+  edge_is N ns h (p ∷ ps) (t ∷ ts) z sum r e =
+      let (n, e1, n1) = bind-some (slice_get ns p.place) (λ n. add_up s sum (mag_of p.ratio) n >>= (λ more. edge_up s more ps ns)) r e in
+      let (more, e2, n2) = bind-some (add_up s sum (mag_of p.ratio) n) (λ more. edge_up s more ps ns) r n1 in
       let (is, below) = place_is ordering t.node p.place z.0.place in
-      let e : N (place ordering t.node) ≡ get_or ns p.place 0 = ap N is ∙ h p.place below in
-      let k : rounded_up (mag_of p.ratio * N (place ordering t.node)) (2 ^ s) ≡ ceil_over (mag_of p.ratio * get_or ns p.place 0) (2 ^ s) = ap (λ m. rounded_up (mag_of p.ratio * m) (2 ^ s)) e ∙ ceil-rounded _ _ in
-      let more = edge_count N ns h ps ts z.1 in
-      omega (arith, k, more)
+      let here : N (place ordering t.node) ≡ n = ap N is ∙ (h p.place below ∙ got 0 ns p.place n e1) in
+      let one = add_up_is s sum (mag_of p.ratio) n more e2 in
+      let k : rounded_up (mag_of p.ratio * N (place ordering t.node)) (2 ^ s) ≡ rounded_up (mag_of p.ratio * n) (2 ^ s) = ap (λ m. rounded_up (mag_of p.ratio * m) (2 ^ s)) here in
+      let rest = edge_is N ns h ps ts z.1 more r n2 in
+      omega (arith, one, k, rest)
 
   reach_is : (vs : List ℕ) → length vs ≡ length links → (r : Reached) → reach s b drops vs ≡ Some r → Reaches vs r
   reach_is vs lv r e =
@@ -147,48 +159,48 @@ module _ (s : ℕ) (ordering : List ℕ) (links : List Link) (drops : List DropE
       some_same : {X : Type 0} (x y : X) → Some x ≡ Some y → x ≡ y
       some_same x y e = cc
 
-      from : (nodes edges far all : List ℕ) → each (λ row. in_size (products_up s row vs)) b.left ≡ Some nodes → each (λ (d : DropEnds). in_size (edge_up s d.taps nodes)) drops ≡ Some edges
-          → each_two (λ rho v. in_size (ceil_over (rho * v) (2 ^ s))) b.rests vs ≡ Some far → each_two (λ edge row. in_size (edge + products_up s row far)) edges b.transfers ≡ Some all → Reaches vs (record { edges = edges; all = all })
+      from : (nodes edges far all : List ℕ) → each (λ row. products_from s 0 row vs) b.left ≡ Some nodes → each (λ (d : DropEnds). edge_up s 0 d.taps nodes) drops ≡ Some edges
+          → each_two (add_up s 0) b.rests vs ≡ Some far → each_two (λ edge row. products_from s edge row far) edges b.transfers ≡ Some all → Reaches vs (record { edges = edges; all = all })
       from nodes edges far all e1 e2 e3 e4 = record {
         edges = edges_are;
         all = λ i l.
-            let a = kept_is _ _ (each_two_got (λ edge row. in_size (edge + products_up s row far)) 0 [] 0 edges b.transfers all e4 i (omega (arith, edge_length))) in
+            let a = products_are s links (get_or b.transfers i []) far (get_or edges i 0) (get_or all i 0) (are.transfer_rows i l) (omega (arith, far_length)) (each_two_got (λ edge row. products_from s edge row far) 0 [] 0 edges b.transfers all e4 i (omega (arith, edge_length))) in
             let c = far_count i l in
-            omega (arith, edges_are i l, a, c);
-        count = let q = (each_two_length (λ edge row. in_size (edge + products_up s row far)) edges b.transfers all e4).1 in omega (arith, edge_length, q);
+            let k = edges_are i l in
+            omega (arith, k, a, c);
+        count = let q = (each_two_length (λ edge row. products_from s edge row far) edges b.transfers all e4).1 in omega (arith, edge_length, q);
       }
         where
           drop_length : length links ≡ length drops
           drop_length = same_length (λ (l : Link) (d : DropEnds). AllZip (HoldsTap s ordering) d.taps l.taps) links drops are.taps
 
           edge_length : length edges ≡ length links
-          edge_length = let q = each_length (λ (d : DropEnds). in_size (edge_up s d.taps nodes)) drops edges e2 in omega (arith, q, drop_length)
+          edge_length = let q = each_length (λ (d : DropEnds). edge_up s 0 d.taps nodes) drops edges e2 in omega (arith, q, drop_length)
 
           node_is : (i : ℕ) → i < length ordering → node_up s ordering links sizes (λ j. get_or vs j 0) i ≡ get_or nodes i 0
           node_is i l =
-              products_count s ordering (get_or b.left i []) vs (are.left_rows i l) (let q = are.nodes in omega (arith, q, lv))
-              ∙ kept_is _ _ (each_got (λ row. in_size (products_up s row vs)) [] 0 b.left nodes e1 i (let q = are.left in omega (arith, q, l)))
+              let q = products_are s ordering (get_or b.left i []) vs 0 (get_or nodes i 0) (are.left_rows i l) (let m = are.nodes in omega (arith, m, lv)) (each_got (λ row. products_from s 0 row vs) [] 0 b.left nodes e1 i (let m = are.left in omega (arith, m, l))) in
+              omega (arith, q)
 
           edges_are : (i : ℕ) → i < length links → edge_from vs i (get_or links i no_link).taps ≡ get_or edges i 0
           edges_are i l =
               subst (λ ms. count_at (λ p t. rounded_up (get_or ms p 0 * node_up s ordering links sizes (λ j. get_or vs j 0) (place ordering t.node)) (2 ^ s)) (get_or links i no_link).taps ≡ get_or edges i 0)
               (sym (get_or-map mags no_drop [] drops i (omega (arith, drop_length, l))))
-              (edge_count (node_up s ordering links sizes (λ j. get_or vs j 0)) nodes node_is (get_or drops i no_drop).taps (get_or links i no_link).taps
-              (zip_got (λ (l : Link) (d : DropEnds). AllZip (HoldsTap s ordering) d.taps l.taps) no_link no_drop links drops are.taps i l)
-              ∙ kept_is _ _ (each_got (λ (d : DropEnds). in_size (edge_up s d.taps nodes)) no_drop 0 drops edges e2 i (omega (arith, drop_length, l))))
+              (let q = edge_is (node_up s ordering links sizes (λ j. get_or vs j 0)) nodes node_is (get_or drops i no_drop).taps (get_or links i no_link).taps
+              (zip_got (λ (l : Link) (d : DropEnds). AllZip (HoldsTap s ordering) d.taps l.taps) no_link no_drop links drops are.taps i l) 0 (get_or edges i 0)
+              (each_got (λ (d : DropEnds). edge_up s 0 d.taps nodes) no_drop 0 drops edges e2 i (omega (arith, drop_length, l))) in omega (arith, q))
 
           far_is : (j : ℕ) → j < length links → far_up s ordering links sizes (λ j. get_or vs j 0) j ≡ get_or far j 0
-          far_is j l = ceil-rounded _ _ ∙ kept_is _ _ (each_two_got (λ rho v. in_size (ceil_over (rho * v) (2 ^ s))) 0 0 0 b.rests vs far e3 j (let q = are.rests in omega (arith, q, l)))
+          far_is j l = let q = add_up_is s 0 (get_or b.rests j 0) (get_or vs j 0) (get_or far j 0) (each_two_got (add_up s 0) 0 0 0 b.rests vs far e3 j (let m = are.rests in omega (arith, m, l))) in omega (arith, q)
 
           far_length : length far ≡ length links
-          far_length = let q = (each_two_length (λ rho v. in_size (ceil_over (rho * v) (2 ^ s))) b.rests vs far e3).1 in let r = are.rests in omega (arith, q, r)
+          far_length = let q = (each_two_length (add_up s 0) b.rests vs far e3).1 in let r = are.rests in omega (arith, q, r)
 
-          far_count : (i : ℕ) → i < length links → count_at (λ j g. rounded_up (sizes.kappa i j * far_up s ordering links sizes (λ j. get_or vs j 0) j) (2 ^ s)) links ≡ products_up s (get_or b.transfers i []) far
+          far_count : (i : ℕ) → i < length links → count_at (λ j g. rounded_up (sizes.kappa i j * far_up s ordering links sizes (λ j. get_or vs j 0) j) (2 ^ s)) links ≡ count_at (λ j g. rounded_up (sizes.kappa i j * get_or far j 0) (2 ^ s)) links
           far_count i l =
               count_same (λ j g. rounded_up (sizes.kappa i j * far_up s ordering links sizes (λ j. get_or vs j 0) j) (2 ^ s)) (λ j g. rounded_up (sizes.kappa i j * get_or far j 0) (2 ^ s)) links
               (each_below (λ j g. rounded_up (sizes.kappa i j * far_up s ordering links sizes (λ j. get_or vs j 0) j) (2 ^ s) ≡ rounded_up (sizes.kappa i j * get_or far j 0) (2 ^ s)) no_link links
               (λ j q. ap (λ m. rounded_up (sizes.kappa i j * m) (2 ^ s)) (far_is j q)))
-              ∙ products_count s links (get_or b.transfers i []) far (are.transfer_rows i l) (omega (arith, far_length))
 
   -- ---- the contraction
   weight_is : (ss weights : List ℕ) → weights_over ss ≡ Some weights → (i : ℕ) → i < length ss → get_or ss i 0 + greatest ss / 2 ^ 20 + 65536 ≡ get_or weights i 0

@@ -49,9 +49,9 @@ drop_from_holds s ordering V xs hx [] [] h sum a z e hz = let is : sum ≡ a = c
 drop_from_holds s ordering V xs hx [] (t ∷ ts) h sum a z e hz = absurd h
 drop_from_holds s ordering V xs hx (p ∷ ps) [] h sum a z e hz = absurd h
 drop_from_holds s ordering V xs hx (p ∷ ps) (t ∷ ts) h sum a z e hz =
-    let (x, e1, n1) = bind-some _ _ a e in
-    let (term, e2, n2) = bind-some _ _ a n1 in
-    let (more, e3, n3) = bind-some _ _ a n2 in
+    let (more, e0, n3) = bind-some _ _ a e in
+    let (x, e1, n1) = bind-some _ _ more e0 in
+    let (term, e2, e3) = bind-some _ _ more n1 in
     let at = item_at (λ n e. EnclosesComplex s e (V n)) t.node ordering xs p.place x h.0.place e1 hx in
     let scaled = along s term _ (real t.ratio ⊗ V t.node) (scaled-is (V t.node) t.ratio) (scale_encloses_rectangle s x term p.ratio (V t.node) t.ratio at h.0.ratio e2) in
     let held = add_encloses_rectangle s sum term more z (real t.ratio ⊗ V t.node) hz scaled e3 in

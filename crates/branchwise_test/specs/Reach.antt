@@ -1,5 +1,5 @@
 -- How far drops of given sizes reach, in whole numbers in units of 1/2^s. Each number that is kept is at most 2^62.
-use Rattle.std.specs.Prelude.{ℕ, ◌+◌, ◌*◌, ◌/◌, ◌^◌, List, [], ◌∷◌, get_or, slice_get, max, Option, Some}
+use Rattle.std.specs.Prelude.{ℕ, ◌+◌, ◌*◌, ◌/◌, ◌^◌, List, [], ◌∷◌, slice_get, max, Option, Some}
 use Rattle.complex_interval.specs.Ends.{mag_of}
 use Rattle.middle_inverse.specs.Lists.{each, each_two, greatest}
 use Rattle.certified_inverse.specs.Certificate.{in_size, ceil_over}
@@ -8,16 +8,23 @@ use Rattle.admittance_box.specs.Steps.{◌>>=◌}
 use Rattle.branchwise_test.specs.Drops.{DropEnds}
 use Rattle.branchwise_test.specs.Sizes.{Bounds}
 
--- the sum of the products of each two numbers over 2^s, each rounded up, up to the end of the shorter list
-abbrev pub products_up : ℕ → List ℕ → List ℕ → ℕ
-products_up s [] vs = 0
-products_up s (e ∷ es) [] = 0
-products_up s (e ∷ es) (v ∷ vs) = ceil_over (e * v) (2 ^ s) + products_up s es vs
+-- the sum, and on top of it e·v/2^s rounded up
+abbrev pub add_up : ℕ → ℕ → ℕ → ℕ → Option ℕ
+add_up s sum e v = in_size (sum + ceil_over (e * v) (2 ^ s))
 
--- the sum over the taps of the greatest size of the ratio times the number at the tap's place, over 2^s, each rounded up
-abbrev pub edge_up : ℕ → List PlacedTap → List ℕ → ℕ
-edge_up s [] ns = 0
-edge_up s (t ∷ taps) ns = ceil_over (mag_of t.ratio * get_or ns t.place 0) (2 ^ s) + edge_up s taps ns
+-- so for each two numbers, up to the end of the shorter list. No part of a sum is greater than the sum, so it counts for nothing that the parts are kept too.
+abbrev pub products_from : ℕ → ℕ → List ℕ → List ℕ → Option ℕ
+products_from s sum [] vs = Some sum
+products_from s sum (e ∷ es) [] = Some sum
+products_from s sum (e ∷ es) (v ∷ vs) = add_up s sum e v >>= (λ more. products_from s more es vs)
+
+-- so for the taps: the greatest size of the ratio, and the number at the tap's place
+abbrev pub edge_from : ℕ → ℕ → List PlacedTap → List ℕ → Option ℕ
+edge_from s sum [] ns = Some sum
+edge_from s sum (t ∷ taps) ns = do
+  n ← slice_get ns t.place
+  more ← add_up s sum (mag_of t.ratio) n
+  edge_from s more taps ns
 
 -- what sizes of drops reach: what (unit - C·P) makes of them at each drop alone, and with what the rests add
 pub record Reached : Type 0 where
@@ -27,10 +34,10 @@ pub record Reached : Type 0 where
 -- where the first sizes are those of the nodes
 abbrev pub reach : ℕ → Bounds → List DropEnds → List ℕ → Option Reached
 reach s b drops vs = do
-  nodes ← each (λ row. in_size (products_up s row vs)) b.left
-  edges ← each (λ d. in_size (edge_up s d.taps nodes)) drops
-  far ← each_two (λ rho v. in_size (ceil_over (rho * v) (2 ^ s))) b.rests vs
-  all ← each_two (λ edge row. in_size (edge + products_up s row far)) edges b.transfers
+  nodes ← each (λ row. products_from s 0 row vs) b.left
+  edges ← each (λ d. edge_from s 0 d.taps nodes) drops
+  far ← each_two (add_up s 0) b.rests vs
+  all ← each_two (λ edge row. products_from s edge row far) edges b.transfers
   Some (record { edges = edges; all = all })
 
 -- weights above what is reached: by the greatest of it over 2^20, rounded down, and by 65536

@@ -9,14 +9,17 @@ use Rattle.admittance_box.specs.Addends.{PlacedTap}
 use Rattle.admittance_box.specs.Steps.{◌>>=◌}
 use Rattle.branchwise_test.specs.Drops.{DropEnds}
 
--- the sum, and on top of it the entry at each tap's place times the tap's ratio
-abbrev pub drop_from : ℕ → Rectangle → List PlacedTap → List Rectangle → Option Rectangle
-drop_from s sum [] xs = Some sum
-drop_from s sum (t ∷ taps) xs = do
+-- the sum, and on top of it the entry at the tap's place times the tap's ratio
+abbrev pub with_tap : ℕ → Rectangle → PlacedTap → List Rectangle → Option Rectangle
+with_tap s sum t xs = do
   x ← slice_get xs t.place
   term ← scale_rectangle s x t.ratio
-  more ← add_rectangles sum term
-  drop_from s more taps xs
+  add_rectangles sum term
+
+-- so for each tap
+abbrev pub drop_from : ℕ → Rectangle → List PlacedTap → List Rectangle → Option Rectangle
+drop_from s sum [] xs = Some sum
+drop_from s sum (t ∷ taps) xs = with_tap s sum t xs >>= (λ more. drop_from s more taps xs)
 
 -- the drop of these taps where the nodes have these voltages
 abbrev pub drop_over : ℕ → List PlacedTap → List Rectangle → Option Rectangle
