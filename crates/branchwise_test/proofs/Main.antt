@@ -21,11 +21,11 @@ use Rattle.network_theory.specs.State.{drop}
 use Rattle.network_theory.proofs.Numbers.{R}
 use Rattle.network_theory.proofs.Whole.{split_admittances}
 use Rattle.plain_elimination.specs.Matrix.{nought_rectangle}
-use Rattle.middle_inverse.specs.Lists.{each}
+use Rattle.middle_inverse.specs.Lists.{each, each_two}
 use Rattle.middle_inverse.specs.Inverse.{middle_inverse}
 use Rattle.middle_inverse.specs.declared.fault.InverseFault.{InverseFault}
 use Rattle.middle_inverse.specs.declared.fault.InverseFault.TheVariants.{NoInverse as NoPivot, OutOfRange as NoValue}
-use Rattle.certified_inverse.specs.Certificate.{ceil_over, unit_rectangles, rows_left, AreRectangles}
+use Rattle.certified_inverse.specs.Certificate.{ceil_over, unit_rectangles, AreRectangles}
 use Rattle.certified_inverse.proofs.Shape.{inverse_shape}
 use Rattle.admittance_box.specs.Addends.{PlacedTap}
 use Rattle.admittance_box.specs.BoxMatrix.{nought_rows}
@@ -52,7 +52,7 @@ use Rattle.branchwise_laws.proofs.Wholes.{whole_test}
 use Rattle.branchwise_test.specs.declared.fault.BranchwiseFault.{BranchwiseFault}
 use Rattle.branchwise_test.specs.declared.fault.BranchwiseFault.TheVariants.{NotContracting}
 use Rattle.branchwise_test.specs.Drops.{DropEnds, node_drops, with_middles}
-use Rattle.branchwise_test.specs.Sizes.{Bounds, drop_over, all_voltages, kept_size, drop_sizes, bounds_of}
+use Rattle.branchwise_test.specs.Sizes.{Bounds, drop_over, all_voltages, kept_size, left_row, left_sizes, drop_sizes, bounds_of}
 use Rattle.branchwise_test.specs.Reach.{Contraction}
 use Rattle.branchwise_test.specs.Enclosed.{valued, Near, correction, near_by, near_with, by_inverse, near_of_drops, near_of, impedance_near}
 use Rattle.branchwise_test.specs.Holds.{IsNear, ImpedanceIsNear}
@@ -137,8 +137,8 @@ module _ (s : ℕ) (ordering : List ℕ) (network : Network) (listed : ListsLive
 module _ (s : ℕ) (ordering : List ℕ) (network : Network) (listed : ListsLive network ordering) (h : Order) (driven k : ℕ) (live : Live network driven) (place : place_of ordering driven ≡ Some k)
     (parts : List Part) (drops : List DropEnds) (links0 : List Link) (ps cs : List (List Rectangle)) (linked0 : IsLinked network h parts ordering links0) (first0 : NodesFirst ordering links0) (held0 : HoldDrops s ordering network listed drops links0)
     (ep : with_middles s drops (nought_rows (length ordering)) ≡ Some ps) (shape : AreRectangles (length ps) cs)
-    (vs : List (List Rectangle)) (column xs : List Rectangle) (sizes : List ℕ) (left transfers : List (List ℕ)) (rests : List ℕ) (rows : List (List Rectangle)) (c : Contraction) (error : ℕ) (value sum estimated : Rectangle)
-    (e1 : all_voltages s cs drops ≡ Some vs) (b4 : rows_left s (unit_rectangles s (length ps)) cs ps ≡ Some rows) (b5 : each (λ row. each kept_size row) rows ≡ Some left) (b2 : each (λ (d : DropEnds). drop_sizes s d.taps vs) drops ≡ Some transfers)
+    (vs : List (List Rectangle)) (column xs : List Rectangle) (sizes : List ℕ) (left transfers : List (List ℕ)) (rests : List ℕ) (c : Contraction) (error : ℕ) (value sum estimated : Rectangle)
+    (e1 : all_voltages s cs drops ≡ Some vs) (b1 : left_sizes s cs ps ≡ Some left) (b2 : each (λ (d : DropEnds). drop_sizes s d.taps vs) drops ≡ Some transfers)
     (b3 : each (λ (d : DropEnds). kept_size d.rest) drops ≡ Some rests) (e3 : slice_get vs k ≡ Some column) (e4 : each (λ (d : DropEnds). drop_over s d.taps column) drops ≡ Some xs) (e5 : each kept_size xs ≡ Some sizes)
     (C : Contracts s k (record { left = left; transfers = transfers; rests = rests }) drops sizes c) (below : c.theta < 2 ^ s) (enough : c.edge + ceil_over (c.last * 2 ^ s) (2 ^ s - c.theta) ≡ error) (f2 : slice_get column k ≡ Some value)
     (f3 : correction s k nought_rectangle drops vs xs ≡ Some sum) (f4 : sub_rectangles value sum ≡ Some estimated) where
@@ -180,14 +180,14 @@ module _ (s : ℕ) (ordering : List ℕ) (network : Network) (listed : ListsLive
   rows_count : length ordering ≡ length ps
   rows_count = same_length (λ n row. HoldsRow s ordering (link_entry (λ l. l.middle) links n) row) ordering ps middles
 
-  b4' : rows_left s (unit_rectangles s (length ordering)) cs ps ≡ Some rows
-  b4' = subst (λ m. rows_left s (unit_rectangles s m) cs ps ≡ Some rows) (sym rows_count) b4
+  left_by_nodes : each_two (left_row s ps) (unit_rectangles s (length ordering)) cs ≡ Some left
+  left_by_nodes = subst (λ m. each_two (left_row s ps) (unit_rectangles s m) cs ≡ Some left) (sym rows_count) b1
 
   abbrev K : ℕ → ℕ → Complex
   K = matrix_number s ordering cs
 
   K_held : Held s ordering K cs
-  K_held = matrix_held s ordering cs listed.distinct (shape.count ∙ sym rows_count) (subst (λ m. AllByRecursion (λ row. length row ≡ m) cs) (sym rows_count) (left_widths s (unit_rectangles s (length ps)) cs ps rows b4)) shape.ordered
+  K_held = matrix_held s ordering cs listed.distinct (shape.count ∙ sym rows_count) (subst (λ m. AllByRecursion (λ row. length row ≡ m) cs) (sym rows_count) (left_widths s (unit_rectangles s (length ps)) cs ps left b1)) shape.ordered
 
   voltages : AllZip (λ l v. HoldsRow s ordering (λ n. drop (K n) l.out) v) links vs
   voltages = voltages_hold s ordering network listed K cs K_held drops links held vs e1
@@ -201,7 +201,7 @@ module _ (s : ℕ) (ordering : List ℕ) (network : Network) (listed : ListsLive
       (λ l d x z q. drop_over_holds s ordering (λ n. K n driven) column column_held d.taps l.taps z.taps x q) links drops xs by_links e4
 
   left_zip : AllZip (λ n row. AllZip (λ n' m. complex_size (left_over ordering K links n n') ≼ units s m) ordering row) ordering left
-  left_zip = left_bound s ordering K links ps middles cs rows left listed.distinct K_held b4' b5
+  left_zip = left_bound s ordering K links ps middles cs left listed.distinct K_held left_by_nodes
 
   transfers_zip : AllZip (λ f row. AllZip (λ g m. complex_size (transfer K f.taps g.out) ≼ units s m) links row) links transfers
   transfers_zip = transfers_bound s ordering network listed K cs K_held drops links held vs voltages transfers b2
@@ -286,7 +286,6 @@ module _ (s : ℕ) (ordering : List ℕ) (network : Network) (listed : ListsLive
           let (left, b1, m1) = bind-some _ _ b e2 in
           let (transfers, b2, m2) = bind-some _ _ b m1 in
           let (rests, b3, m3) = bind-some _ _ b m2 in
-          let (rows, b4, b5) = bind-some _ _ left b1 in
           let bounds_are : record { left = left; transfers = transfers; rests = rests } ≡ b = some_same _ _ m3 in
           let (error, f1, l1) = bind-some _ _ found e7 in
           let (value, f2, l2) = bind-some _ _ found l1 in
@@ -294,7 +293,7 @@ module _ (s : ℕ) (ordering : List ℕ) (network : Network) (listed : ListsLive
           let (estimated, f4, l4) = bind-some _ _ found l3 in
           let found_is : record { estimate = estimated; error = error } ≡ found = some_same _ _ l4 in
           subst (IsNear s network h driven) found_is
-          (finished s ordering network listed h driven k live place parts drops links0 ps cs linked0 first0 held0 ep shape vs column xs sizes left transfers rests rows c error value sum estimated e1 b4 b5 b2 b3 e3 e4 e5 (subst (λ o. Contracts s k o drops sizes c) (sym bounds_are) C) below (kept_is _ _ f1) f2 f3 f4)
+          (finished s ordering network listed h driven k live place parts drops links0 ps cs linked0 first0 held0 ep shape vs column xs sizes left transfers rests c error value sum estimated e1 b1 b2 b3 e3 e4 e5 (subst (λ o. Contracts s k o drops sizes c) (sym bounds_are) C) below (kept_is _ _ f1) f2 f3 f4)
 
 -- ---- the whole
 pub impedance_is_near : (s : ℕ) → ImpedanceIsNear s

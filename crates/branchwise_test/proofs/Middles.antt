@@ -11,6 +11,7 @@ use Rattle.exact_algebra.proofs.Holding.{holds_along}
 use Rattle.exact_algebra.proofs.Ratios.{ratio_ring}
 use Rattle.exact_algebra.proofs.Reader.{reads, ring, none_left}
 use Rattle.exact_algebra.proofs.Reals.{re-real, im-real}
+use Rattle.linear_systems.specs.Assembly.{where_equal}
 use Rattle.complex_interval.specs.Ends.{Ends, Encloses, mag_of}
 use Rattle.complex_interval.specs.Rectangles.{Rectangle, EnclosesComplex, IsAtLeastSize, mul_rectangles}
 use Rattle.complex_interval.proofs.RectangleLaws.{add_encloses_rectangle, mul_encloses_rectangle}
@@ -20,9 +21,9 @@ use Rattle.network_theory.specs.Nodal.{IsDistinct, ListsLive, pair_entry}
 use Rattle.network_theory.specs.State.{drop}
 use Rattle.network_theory.proofs.Numbers.{R}
 use Rattle.network_theory.proofs.OneNode.{real-unit}
-use Rattle.middle_inverse.specs.Lists.{each}
+use Rattle.middle_inverse.specs.Lists.{each, each_two}
 use Rattle.middle_inverse.specs.Inverse.{size_of}
-use Rattle.certified_inverse.specs.Certificate.{in_size, unit_rectangles, rows_left}
+use Rattle.certified_inverse.specs.Certificate.{in_size, unit_rectangles, row_left}
 use Rattle.admittance_box.specs.Exact.{zero_ends}
 use Rattle.admittance_box.specs.Places.{place_of}
 use Rattle.admittance_box.specs.Steps.{◌>>=◌}
@@ -40,12 +41,12 @@ use Rattle.branchwise_laws.proofs.AtMost.{le_along}
 use Rattle.branchwise_laws.proofs.Bounds.{size-real}
 use Rattle.branchwise_laws.proofs.Identity.{drop-node}
 use Rattle.branchwise_test.specs.Drops.{DropEnds, with_middles}
-use Rattle.branchwise_test.specs.Sizes.{drop_over, voltages, all_voltages, kept_size, drop_sizes}
+use Rattle.branchwise_test.specs.Sizes.{drop_over, voltages, all_voltages, kept_size, left_row, drop_sizes}
 use Rattle.branchwise_test.specs.Enclosed.{or_else, moved, correction}
-use Rattle.branchwise_test.proofs.Zips.{each_holds}
-use Rattle.branchwise_test.proofs.Rows.{HoldsRow, row_along, drop_over_holds, left_holds}
+use Rattle.branchwise_test.proofs.Zips.{each_holds, each_two_holds}
+use Rattle.branchwise_test.proofs.Rows.{HoldsRow, row_along, drop_over_holds, units_held, row_left_holds}
 use Rattle.branchwise_test.proofs.Branches.{HoldsDrop, HoldDrops}
-open complex_numbers use {◌≈◌, nought, ◌⊕◌, ◌⊗◌, minus}
+open complex_numbers use {◌≈◌, nought, unit, ◌⊕◌, ◌⊗◌, minus}
 open complex_field use {same, back, next}
 
 -- ---- sizes
@@ -74,13 +75,18 @@ ratio_size s a x h =
     le_along (size-real x) (ratio_ring.same _) (subst (λ n. complex_size (real x) ≼ units s n) plain b)
 
 -- the entries of (unit - C·P)
-pub left_bound : (s : ℕ) (ordering : List ℕ) (C : ℕ → ℕ → Complex) (links : List Link) (ps : List (List Rectangle)) → Held s ordering (link_entry (λ l. l.middle) links) ps → (cs rows : List (List Rectangle)) (left : List (List ℕ))
-    → IsDistinct ordering → Held s ordering C cs → rows_left s (unit_rectangles s (length ordering)) cs ps ≡ Some rows → each (λ row. each kept_size row) rows ≡ Some left
+pub left_bound : (s : ℕ) (ordering : List ℕ) (C : ℕ → ℕ → Complex) (links : List Link) (ps : List (List Rectangle)) → Held s ordering (link_entry (λ l. l.middle) links) ps → (cs : List (List Rectangle)) (left : List (List ℕ))
+    → IsDistinct ordering → Held s ordering C cs → each_two (left_row s ps) (unit_rectangles s (length ordering)) cs ≡ Some left
     → AllZip (λ n row. AllZip (λ n' k. complex_size (left_over ordering C links n n') ≼ units s k) ordering row) ordering left
-left_bound s ordering C links ps held cs rows left d hc e1 e2 =
-    each_holds (λ n row. HoldsRow s ordering (left_over ordering C links n) row) (λ n row. AllZip (λ n' k. complex_size (left_over ordering C links n n') ≼ units s k) ordering row) (λ row. each kept_size row)
-    (λ n row ks h q. each_holds (λ n' a. EnclosesComplex s a (left_over ordering C links n n')) (λ n' k. complex_size (left_over ordering C links n n') ≼ units s k) kept_size
-    (λ n' a k p f. size_kept s a (left_over ordering C links n n') k p f) ordering row ks h q) ordering rows left (left_holds s ordering C links ps held cs rows d hc e1) e2
+left_bound s ordering C links ps held cs left d hc e =
+    each_two_holds (λ n u. HoldsRow s ordering (λ n'. where_equal complex_numbers n n' unit) u) (λ n row. HoldsRow s ordering (C n) row) (λ n row. AllZip (λ n' k. complex_size (left_over ordering C links n n') ≼ units s k) ordering row) (left_row s ps)
+    one ordering (unit_rectangles s (length ordering)) cs left (units_held s ordering d) hc e
+  where
+    one : (n : ℕ) (u c : List Rectangle) (ks : List ℕ) → HoldsRow s ordering (λ n'. where_equal complex_numbers n n' unit) u → HoldsRow s ordering (C n) c → left_row s ps u c ≡ Some ks → AllZip (λ n' k. complex_size (left_over ordering C links n n') ≼ units s k) ordering ks
+    one n u c ks hu hc e =
+        let (row, e1, e2) = bind-some (row_left s ps u c) (each kept_size) ks e in
+        each_holds (λ n' a. EnclosesComplex s a (left_over ordering C links n n')) (λ n' k. complex_size (left_over ordering C links n n') ≼ units s k) kept_size
+        (λ n' a k p f. size_kept s a (left_over ordering C links n n') k p f) ordering row ks (row_left_holds s ordering C links ps held n u c row hu hc e1) e2
 
 -- what belongs to the first link at a node's place
 first_with : {Y : Type 0} (P : Link → Y → Type 0) (nodes : List ℕ) (links : List Link) (ys : List Y) (n i : ℕ) (y : Y) → place_of nodes n ≡ Some i → slice_get ys i ≡ Some y → NodesFirst nodes links → AllZip P links ys

@@ -14,9 +14,9 @@ use Rattle.network_theory.specs.State.{drop}
 use Rattle.network_theory.specs.Nodal.{IsDistinct}
 use Rattle.network_theory.proofs.Numbers.{R}
 use Rattle.plain_elimination.specs.Matrix.{nought_rectangle}
-use Rattle.middle_inverse.specs.Lists.{and_then, each_two}
+use Rattle.middle_inverse.specs.Lists.{and_then, each, each_two}
 use Rattle.middle_inverse.specs.Inverse.{one_rectangle}
-use Rattle.certified_inverse.specs.Certificate.{IsOrderedRectangle, add_times, combination, unit_rectangles, row_left, rows_left}
+use Rattle.certified_inverse.specs.Certificate.{IsOrderedRectangle, add_times, combination, unit_rectangles, row_left}
 use Rattle.certified_inverse.proofs.Rows.{and_then-some, add_times-holds}
 use Rattle.certified_inverse.proofs.Law.{low_held}
 use Rattle.admittance_box.specs.Addends.{PlacedTap}
@@ -30,7 +30,7 @@ use Rattle.branchwise_laws.specs.Total.{total}
 use Rattle.branchwise_laws.specs.Link.{Link, link_entry}
 use Rattle.branchwise_laws.specs.Places.{place}
 use Rattle.branchwise_laws.specs.Reach.{left_over}
-use Rattle.branchwise_test.specs.Sizes.{drop_from}
+use Rattle.branchwise_test.specs.Sizes.{drop_from, kept_size, left_row}
 use Rattle.branchwise_test.proofs.Zips.{each_two_holds, zip_each, at_own_place}
 open complex_numbers use {◌≈◌, nought, unit, ◌⊕◌, ◌⊗◌, minus}
 open complex_field use {same, back, next}
@@ -115,7 +115,7 @@ apart_all : (m : ℕ) (ordering : List ℕ) → AllByRecursion (λ n. m ≢ n) o
 apart_all m [] h = tt
 apart_all m (n ∷ ordering) h = (where_apart m n unit h.0, apart_all m ordering h.1)
 
-units_held : (s : ℕ) (ordering : List ℕ) → IsDistinct ordering → Held s ordering (λ n n'. where_equal complex_numbers n n' unit) (unit_rectangles s (length ordering))
+pub units_held : (s : ℕ) (ordering : List ℕ) → IsDistinct ordering → Held s ordering (λ n n'. where_equal complex_numbers n n' unit) (unit_rectangles s (length ordering))
 units_held s [] d = tt
 units_held s (m ∷ ordering) d = (
   (subst (EnclosesComplex s (one_rectangle s)) (sym (where_here m unit)) (one_held s), noughts_held s ordering (λ n'. where_equal complex_numbers m n' unit) (apart_all m ordering d.0)),
@@ -156,7 +156,7 @@ cleared_held s P (n ∷ ordering) [] h = absurd h
 cleared_held s P (n ∷ ordering) (a ∷ e) h = (nought_held s, cleared_held s P ordering e h.1)
 
 module _ (s : ℕ) (ordering : List ℕ) (C : ℕ → ℕ → Complex) (links : List Link) (ps : List (List Rectangle)) (held : Held s ordering (link_entry (λ l. l.middle) links) ps) where
-  row_left_holds : (n : ℕ) (e cs new : List Rectangle) → HoldsRow s ordering (λ n'. where_equal complex_numbers n n' unit) e → HoldsRow s ordering (C n) cs → row_left s ps e cs ≡ Some new → HoldsRow s ordering (left_over ordering C links n) new
+  pub row_left_holds : (n : ℕ) (e cs new : List Rectangle) → HoldsRow s ordering (λ n'. where_equal complex_numbers n n' unit) e → HoldsRow s ordering (C n) cs → row_left s ps e cs ≡ Some new → HoldsRow s ordering (left_over ordering C links n) new
   row_left_holds n e cs new he hc k =
       let (sums, k1, k2) = and_then-some _ _ _ k in
       let M = link_entry (λ l. l.middle) links in
@@ -168,11 +168,6 @@ module _ (s : ℕ) (ordering : List ℕ) (C : ℕ → ℕ → Complex) (links : 
       taken : (a b : Complex) → complex_difference a (nought ⊕ b) ≈ a ⊕ minus b
       taken a b = ring R (a ∷ b ∷ []) (search reads depth 40 fits 4000) none_left
 
-  pub left_holds : (cs rows : List (List Rectangle)) → IsDistinct ordering → Held s ordering C cs → rows_left s (unit_rectangles s (length ordering)) cs ps ≡ Some rows → Held s ordering (left_over ordering C links) rows
-  left_holds cs rows d hc e =
-      each_two_holds (λ n row. HoldsRow s ordering (λ n'. where_equal complex_numbers n n' unit) row) (λ n row. HoldsRow s ordering (C n) row) (λ n row. HoldsRow s ordering (left_over ordering C links n) row) (row_left s ps)
-      (λ n e c r p q f. row_left_holds n e c r p q f) ordering (unit_rectangles s (length ordering)) cs rows (units_held s ordering d) hc e
-
 -- where the rows of (unit - C·P) have values, each row of C has an entry for each row of P
 combination_width : (s : ℕ) (sums cs new : List Rectangle) (ys : List (List Rectangle)) → combination s sums cs ys ≡ Some new → length cs ≡ length ys
 combination_width s sums [] new [] e = refl
@@ -182,12 +177,13 @@ combination_width s sums (c ∷ cs) new (y ∷ ys) e =
     let (more, e1, n1) = and_then-some (each_two (add_times s c) sums y) (λ more. combination s more cs ys) new e in
     ap suc (combination_width s more cs new ys n1)
 
-pub left_widths : (s : ℕ) (es cs ps rows : List (List Rectangle)) → rows_left s es cs ps ≡ Some rows → AllByRecursion (λ row. length row ≡ length ps) cs
+pub left_widths : (s : ℕ) (es cs ps : List (List Rectangle)) (rows : List (List ℕ)) → each_two (left_row s ps) es cs ≡ Some rows → AllByRecursion (λ row. length row ≡ length ps) cs
 left_widths s [] [] ps rows e = tt
 left_widths s [] (c ∷ cs) ps rows e = absurd cc
 left_widths s (u ∷ es) [] ps rows e = tt
 left_widths s (u ∷ es) (c ∷ cs) ps rows e =
-    let (d, e1, n1) = and_then-some (row_left s ps u c) (λ d. and_then (rows_left s es cs ps) (λ ds. Some (d ∷ ds))) rows e in
-    let (ds, e2, n2) = and_then-some (rows_left s es cs ps) (λ ds. Some (d ∷ ds)) rows n1 in
-    let (sums, e3, n3) = and_then-some (combination s (map (λ _. nought_rectangle) u) c ps) (λ sums. each_two sub_rectangles u sums) d e1 in
-    (combination_width s _ c sums ps e3, left_widths s es cs ps ds e2)
+    let (d, e1, n1) = and_then-some (left_row s ps u c) (λ d. and_then (each_two (left_row s ps) es cs) (λ ds. Some (d ∷ ds))) rows e in
+    let (ds, e2, n2) = and_then-some (each_two (left_row s ps) es cs) (λ ds. Some (d ∷ ds)) rows n1 in
+    let (row, e3, n3) = bind-some (row_left s ps u c) (each kept_size) d e1 in
+    let (sums, e4, n4) = and_then-some (combination s (map (λ _. nought_rectangle) u) c ps) (λ sums. each_two sub_rectangles u sums) row e3 in
+    (combination_width s _ c sums ps e4, left_widths s es cs ps ds e2)

@@ -2,9 +2,9 @@
 use Rattle.std.specs.Prelude.{ℕ, List, [], ◌∷◌, length, slice_get, Option, Some}
 use Rattle.complex_interval.specs.Rectangles.{Rectangle, add_rectangles, scale_rectangle}
 use Rattle.plain_elimination.specs.Matrix.{nought_rectangle}
-use Rattle.middle_inverse.specs.Lists.{each}
+use Rattle.middle_inverse.specs.Lists.{each, each_two}
 use Rattle.middle_inverse.specs.Inverse.{size_of}
-use Rattle.certified_inverse.specs.Certificate.{in_size, unit_rectangles, rows_left}
+use Rattle.certified_inverse.specs.Certificate.{in_size, unit_rectangles, row_left}
 use Rattle.admittance_box.specs.Addends.{PlacedTap}
 use Rattle.admittance_box.specs.Steps.{◌>>=◌}
 use Rattle.branchwise_test.specs.Drops.{DropEnds}
@@ -37,9 +37,13 @@ all_voltages s cs drops = each (λ d. voltages s cs d.taps) drops
 abbrev pub kept_size : Rectangle → Option ℕ
 kept_size a = in_size (size_of a)
 
+-- of a row of the unit matrix less the rows P, each times its factor of a row of C: the sizes of the entries
+abbrev pub left_row : ℕ → List (List Rectangle) → List Rectangle → List Rectangle → Option (List ℕ)
+left_row s ps unit factors = row_left s ps unit factors >>= each kept_size
+
 -- the sizes of the entries of (unit - C·P)
 abbrev pub left_sizes : ℕ → List (List Rectangle) → List (List Rectangle) → Option (List (List ℕ))
-left_sizes s cs ps = rows_left s (unit_rectangles s (length ps)) cs ps >>= each (λ row. each kept_size row)
+left_sizes s cs ps = each_two (left_row s ps) (unit_rectangles s (length ps)) cs
 
 -- the sizes of the drops of these taps at each of these lists of voltages
 abbrev pub drop_sizes : ℕ → List PlacedTap → List (List Rectangle) → Option (List ℕ)

@@ -2,7 +2,7 @@ pub mod Raw
 pub mod Rows
 pub mod Law
 mod Worked
-mod Products
-mod Greatest
-mod Placed
+pub mod Products
+pub mod Greatest
+pub mod Placed
 pub mod Shape
