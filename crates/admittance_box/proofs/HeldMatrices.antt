@@ -111,7 +111,7 @@ has_place-tap ordering (w ∷ ts) (u ∷ us) z t k i = go k.0 k.1 k.2 (λ j l e.
     go (suc j) l e more = or_right _ _ (more j (omega arith) e)
 
 -- an uncoupled branch's partner is uncoupled
-uncoupled_up : (a b : Branch) → BranchUpTo a b → IsUncoupled a → IsUncoupled b
+pub uncoupled_up : (a b : Branch) → BranchUpTo a b → IsUncoupled a → IsUncoupled b
 uncoupled_up a b p u = go a.law b.law p.law u
   where
     go : (l v : Law) → LawUpTo l v → elim l as (λ z. Type 0) [ Series r k m x xc ↦ a.group ≡ 0 | Shunt y ↦ a.group ≡ 0 | Coupled3 place c ↦ ⊥ ]
@@ -231,7 +231,7 @@ rows_held s f ordering [] (r ∷ rows) z = absurd z
 rows_held s f ordering (n ∷ nodes) [] z = absurd z
 rows_held s f ordering (n ∷ nodes) (r ∷ rows) z = (row_held s (f n) ordering r z.0, rows_held s f ordering nodes rows z.1)
 
-nought_held : (s : ℕ) → EnclosesComplex s nought_rectangle nought
+pub nought_held : (s : ℕ) → EnclosesComplex s nought_rectangle nought
 nought_held s = record {
   re = holds_along _ _ s _ _ (ratio_ring.back (re-complex_whole (pos 0))) (zero_encloses s);
   im = holds_along _ _ s _ _ (ratio_ring.back (im-complex_whole (pos 0))) (zero_encloses s);

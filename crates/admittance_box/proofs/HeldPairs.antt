@@ -34,7 +34,7 @@ pub along : (s : ℕ) (a : Rectangle) (z w : Complex) → z ≈ w → EnclosesCo
 along s a z w e p = record { re = holds_along _ _ s _ _ e.re p.re; im = holds_along _ _ s _ _ e.im p.im }
 
 -- a number scaled is its product
-scaled-is : (z : Complex) (x : Ratio) → complex_scaled z x ≈ real x ⊗ z
+pub scaled-is : (z : Complex) (x : Ratio) → complex_scaled z x ≈ real x ⊗ z
 scaled-is z x =
     let p = real_part (real x) in
     let q = imaginary_part (real x) in

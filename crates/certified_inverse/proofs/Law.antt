@@ -38,7 +38,7 @@ low_value s a = complex_over a.re.low a.im.low (2 ^ s)
 end_held : (l h : ℤ) (p : ℕ) → l ≤ℤ h → (l *ℤ pos p) ≤ℤ (h *ℤ pos p)
 end_held l h p k = let m = mul-le_left p l h k in omega (arith, ints)
 
-low_held : (s : ℕ) (a : Rectangle) → IsOrderedRectangle a → EnclosesComplex s a (low_value s a)
+pub low_held : (s : ℕ) (a : Rectangle) → IsOrderedRectangle a → EnclosesComplex s a (low_value s a)
 unfolding real_part imaginary_part den
 low_held s a o =
     let some = pow_pos s in

@@ -1,8 +1,8 @@
-mod Raw
-mod Rows
-mod Law
+pub mod Raw
+pub mod Rows
+pub mod Law
 mod Worked
-mod Products
-mod Greatest
-mod Placed
-mod Shape
+pub mod Products
+pub mod Greatest
+pub mod Placed
+pub mod Shape

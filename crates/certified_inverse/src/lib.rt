@@ -12,3 +12,4 @@ mod theta;
 pub use bench::InverseBench;
 pub use laws::{certificate_holds, worked_certificates};
 pub use outcome::InverseOutcome;
+pub use sums::combine;

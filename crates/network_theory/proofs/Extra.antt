@@ -54,7 +54,7 @@ module _ (network : Network) (k : ℕ) (e : Ratio) where
   abbrev s : Branch
   s = shunt_at k e
 
-  live_up : (n : ℕ) → Live network n → Live more n
+  pub live_up : (n : ℕ) → Live network n → Live more n
   live_up n (grounded b t c q) = grounded b t (contains_front network.branches s b c) q
   live_up n (joined b t u c p q l) = joined b t u (contains_front network.branches s b c) p q (live_up t.node l)
 
@@ -67,7 +67,7 @@ module _ (network : Network) (k : ℕ) (e : Ratio) where
       go zero l e = ap (λ z. z.node) (sym e)
       go (suc i) l e = absurd (omega arith)
 
-  live_down : Live network k → (n : ℕ) → Live more n → Live network n
+  pub live_down : Live network k → (n : ℕ) → Live more n → Live network n
   live_down lk n (grounded b t c q) = elim (contains_either network.branches s b c) [
     | inl m ↦ grounded b t m q
     | inr w ↦ subst (λ j. Live network j) (sym (its_tap b t w (subst (λ ts. Contains ts t) (sym q) (0, omega arith, refl)))) lk
@@ -96,12 +96,12 @@ module _ (network : Network) (k : ℕ) (e : Ratio) where
     abbrev last_part : Part
     last_part = Alone s y'
 
-    flatten-more : (ps : List Part) → flatten (ps ++ last_part ∷ []) ≡ flatten ps ++ s ∷ []
+    pub flatten-more : (ps : List Part) → flatten (ps ++ last_part ∷ []) ≡ flatten ps ++ s ∷ []
     flatten-more [] = refl
     flatten-more (Alone b y ∷ ps) = ap (λ z. b ∷ z) (flatten-more ps)
     flatten-more (Group a b c Y ∷ ps) = ap (λ z. a ∷ b ∷ c ∷ z) (flatten-more ps)
 
-    each-more : Live network k → (ps : List Part) → AllByRecursion (λ part. (b : Branch) → Contains (branches_of part) b → Carries network b → HasAdmittance h part) ps
+    pub each-more : Live network k → (ps : List Part) → AllByRecursion (λ part. (b : Branch) → Contains (branches_of part) b → Carries network b → HasAdmittance h part) ps
         → AllByRecursion (λ part. (b : Branch) → Contains (branches_of part) b → Carries more b → HasAdmittance h part) (ps ++ last_part ∷ [])
     each-more lk [] a = (λ b i c. alone s y' (same y'), tt)
     each-more lk (p ∷ ps) a = (λ b i c. a.0 b i (carries_down lk b c), each-more lk ps a.1)

@@ -1,0 +1,16 @@
+pub mod AtMost
+pub mod Sums
+pub mod Identity
+pub mod Drops
+pub mod Bounds
+pub mod Weights
+pub mod Test
+pub mod Even
+pub mod Pairs
+pub mod Each
+pub mod Bounded
+pub mod Near
+pub mod Worked
+pub mod Places
+pub mod Wholes
+pub mod Extra

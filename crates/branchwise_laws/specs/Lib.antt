@@ -1,0 +1,11 @@
+pub mod Total
+pub mod Link
+pub mod Reach
+pub mod Laws
+pub mod Pairs
+pub mod Bounds
+pub mod Near
+pub mod Worked
+pub mod Places
+pub mod Wholes
+pub mod Extra

@@ -1,0 +1,7 @@
+pub mod Zips
+pub mod Rows
+pub mod Branches
+pub mod Middles
+pub mod Counts
+pub mod Main
+pub mod Worked

@@ -1,0 +1,93 @@
+-- The drops of a pair of networks over a box of orders, on pairs of ends. The drop of some taps is the sum of their nodes' voltages, each times its tap's ratio.
+use Rattle.std.specs.Prelude.{ℕ, zero, suc, List, [], ◌∷◌, ◌++◌, slice_get, slice_set, Option, Some, if◌then◌else◌}
+use Rattle.complex_interval.specs.Ends.{Ends}
+use Rattle.complex_interval.specs.Rectangles.{Rectangle, add_rectangles, sub_rectangles, scale_rectangle}
+use Rattle.network_theory.specs.Branch.{Branch}
+use Rattle.plain_elimination.specs.Matrix.{nought_rectangle}
+use Rattle.middle_inverse.specs.Inverse.{middle_point}
+use Rattle.admittance_box.specs.Addends.{LawEnds, PlacedTap, TapPair, law_between, taps_between, tap_pairs, has_place}
+use Rattle.admittance_box.specs.BoxMatrix.{law_rectangle, with_pairs}
+use Rattle.admittance_box.specs.Exact.{one_ends}
+use Rattle.admittance_box.specs.Steps.{◌>>=◌}
+
+-- a branch of live nodes: the intervals of its law, its taps by the places of their nodes, and the pairs of its taps with the products of their ratios
+pub record LiveBranch : Type 0 where
+  pub law : LawEnds
+  pub taps : List PlacedTap
+  pub pairs : List TapPair
+
+abbrev pub live_branch : ℕ → List ℕ → Branch → Branch → Option LiveBranch
+live_branch s ordering a b = do
+  law ← law_between s a.law b.law
+  taps ← taps_between s ordering a.taps b.taps
+  pairs ← tap_pairs s taps taps
+  Some (record { law = law; taps = taps; pairs = pairs })
+
+-- the branches of live nodes in order, from one network to the other; no value where a number or a product of one has no interval
+abbrev pub live_branches : ℕ → List ℕ → List Branch → List Branch → Option (List LiveBranch)
+live_branches s ordering [] bs = Some []
+live_branches s ordering (a ∷ rest) [] = Some []
+live_branches s ordering (a ∷ rest) (b ∷ bs) =
+    if has_place ordering a.taps
+    then live_branch s ordering a b >>= (λ l. live_branches s ordering rest bs >>= (λ ls. Some (l ∷ ls)))
+    else live_branches s ordering rest bs
+
+-- a drop: its taps with their pairs, and the sums of the middles and of the rests of the admittances that count at it
+pub record DropEnds : Type 0 where
+  pub taps : List PlacedTap
+  pub pairs : List TapPair
+  pub middle : Rectangle
+  pub rest : Rectangle
+
+-- the tap of a node alone
+abbrev pub node_tap : ℕ → ℕ → PlacedTap
+node_tap s place = record { place = place; ratio = one_ends s }
+
+-- the drop of a node alone, at which nothing counts yet
+abbrev pub node_drop : ℕ → ℕ → Option DropEnds
+node_drop s place = do
+  pairs ← tap_pairs s (node_tap s place ∷ []) (node_tap s place ∷ [])
+  Some (record { taps = node_tap s place ∷ []; pairs = pairs; middle = nought_rectangle; rest = nought_rectangle })
+
+-- those of so many nodes, from this place on
+abbrev pub node_drops : ℕ → ℕ → ℕ → Option (List DropEnds)
+node_drops s place zero = Some []
+node_drops s place (suc count) = do
+  d ← node_drop s place
+  ds ← node_drops s (suc place) count
+  Some (d ∷ ds)
+
+-- a drop at which an admittance more counts, times a factor
+abbrev pub raised : ℕ → Rectangle → Rectangle → Ends → DropEnds → Option DropEnds
+raised s middle rest factor d = do
+  m ← scale_rectangle s middle factor
+  r ← scale_rectangle s rest factor
+  middles ← add_rectangles d.middle m
+  rests ← add_rectangles d.rest r
+  Some (record { taps = d.taps; pairs = d.pairs; middle = middles; rest = rests })
+
+-- A branch of one tap, and so of one pair, counts at the drop of its node, times the square of the ratio. One of more taps has a drop of its own, after those before it.
+abbrev pub counted : ℕ → Rectangle → Rectangle → List PlacedTap → List TapPair → List DropEnds → Option (List DropEnds)
+counted s middle rest taps [] drops = Some drops
+counted s middle rest taps (p ∷ []) drops = do
+  d ← slice_get drops p.row
+  more ← raised s middle rest p.factor d
+  Some (slice_set drops p.row more)
+counted s middle rest taps (p ∷ q ∷ pairs) drops = Some (drops ++ record { taps = taps; pairs = p ∷ q ∷ pairs; middle = middle; rest = rest } ∷ [])
+
+-- so for a branch, whose admittance over the orders of an interval is the point in its middle and the rest
+abbrev pub with_branch : ℕ → Ends → LiveBranch → List DropEnds → Option (List DropEnds)
+with_branch s h b drops = do
+  y ← law_rectangle s h b.law
+  rest ← sub_rectangles y (middle_point y)
+  counted s (middle_point y) rest b.taps b.pairs drops
+
+-- the drops of nodes in their ordering with what each branch counts at them, then those of branches
+abbrev pub with_branches : ℕ → Ends → List LiveBranch → List DropEnds → Option (List DropEnds)
+with_branches s h [] drops = Some drops
+with_branches s h (b ∷ bs) drops = with_branch s h b drops >>= with_branches s h bs
+
+-- the rows with the middle of each drop, for each pair of its taps
+abbrev pub with_middles : ℕ → List DropEnds → List (List Rectangle) → Option (List (List Rectangle))
+with_middles s [] rows = Some rows
+with_middles s (d ∷ ds) rows = with_pairs s d.middle d.pairs rows >>= with_middles s ds

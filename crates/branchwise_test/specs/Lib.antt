@@ -1,0 +1,6 @@
+pub mod Drops
+pub mod Sizes
+pub mod Reach
+pub mod Enclosed
+pub mod Holds
+pub mod Worked

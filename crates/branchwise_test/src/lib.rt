@@ -1,0 +1,21 @@
+// The branch-wise test of a box of orders: what it computes, and what that says. No program calls these functions.
+#![tactic(auto)]
+
+ghost use Rattle.std.specs.Prelude.{ℕ};
+ghost use Rattle.branchwise_test.specs.Holds.{ImpedanceIsNear};
+ghost use Rattle.branchwise_test.specs.Worked.{WorkedEstimates};
+
+mod fault;
+
+pub use fault::BranchwiseFault;
+
+/// An estimate over a box of orders holds: for every network between the pair and every order of the box, the driving-point
+/// impedance exists, is the only one, and lies within the error of a number that the estimate holds.
+pub fn impedance_is_near()
+    ensures law { (s : ℕ) → ImpedanceIsNear s }
+{}
+
+/// Estimates of small networks, worked by hand.
+pub fn worked_estimates()
+    ensures law { WorkedEstimates }
+{}
