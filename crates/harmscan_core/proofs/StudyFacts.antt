@@ -48,7 +48,7 @@ in_size range (pos n) low in_range = in_range
 in_size range (negsuc n) low in_range = absurd (omega (arith, ints, low, in_range.0))
 
 -- what is asked of a scan is in range
-pub spec_in_range : (study : Study) (scan : ScanItem) → IsLawful study → IsLawfulScan study.model study.buses scan → IsScanSpec (spec_of study scan)
+pub spec_in_range : (study : Study) (scan : ScanItem) → IsLawful study → IsLawfulScan study.version study.model study.buses scan → IsScanSpec (spec_of study scan)
 spec_in_range study scan b s =
     let kv = kv_within study.buses scan.bus b.buses s.bus in
     record {
@@ -71,17 +71,17 @@ live_at study bus Positive n inside zero = n.buses bus inside
 live_at study bus Zero n inside zero = zero refl
 
 -- the bus of a scan is live in the scan's network
-pub scan_live : (study : Study) (scan : ScanItem) → HasLiveNetworks study → IsLawfulScan study.model study.buses scan → IsLiveScan (network_of study Zero) scan → Live (network_of study scan.network) scan.bus
+pub scan_live : (study : Study) (scan : ScanItem) → HasLiveNetworks study → IsLawfulScan study.version study.model study.buses scan → IsLiveScan (network_of study Zero) scan → Live (network_of study scan.network) scan.bus
 scan_live study scan n s live = live_at study scan.bus scan.network n s.bus live
 
 -- ---- truth
-sound : (study : Study) (scan : ScanItem) → IsLawful study → IsLawfulScan study.model study.buses scan → CanScan study scan → IsSound (looked_at study scan) (test_of study scan)
+sound : (study : Study) (scan : ScanItem) → IsLawful study → IsLawfulScan study.version study.model study.buses scan → CanScan study scan → IsSound (looked_at study scan) (test_of study scan)
 unfolding test_of
 sound study scan b s can =
     pair_is_sound study.scale (levels_of (spec_of study scan)) (network_of study scan.network) (network_of study scan.network) scan.bus (ordering_of (network_of study scan.network) scan.bus) nothing
     (spec_in_range study scan b s).levels can.ready (omega (arith, ints)) (network_of study scan.network) (between_itself (network_of study scan.network) can.whole)
 
-pub scan_holds : (study : Study) (scan : ScanItem) → IsLawful study → IsLawfulScan study.model study.buses scan → CanScan study scan → HoldsOfScan study scan
+pub scan_holds : (study : Study) (scan : ScanItem) → IsLawful study → IsLawfulScan study.version study.model study.buses scan → CanScan study scan → HoldsOfScan study scan
 unfolding boxes_in
 scan_holds study scan b s can =
     let r = spec_in_range study scan b s in
@@ -91,11 +91,11 @@ scan_holds study scan b s can =
       split_boxes = boxes_come (test_of study scan) (widths_of (spec_of study scan)) _ _ (some_width _ r) r.band;
     }
 
-all_hold : (study : Study) (scans : List ScanItem) → IsLawful study → AllByRecursion (IsLawfulScan study.model study.buses) scans → AllByRecursion (CanScan study) scans → AllByRecursion (HoldsOfScan study) scans
+all_hold : (study : Study) (scans : List ScanItem) → IsLawful study → AllByRecursion (IsLawfulScan study.version study.model study.buses) scans → AllByRecursion (CanScan study) scans → AllByRecursion (HoldsOfScan study) scans
 all_hold study [] b all can = tt
 all_hold study (scan ∷ scans) b all can = (scan_holds study scan b all.0 can.0, all_hold study scans b all.1 can.1)
 
-pub study_holds : (study : Study) → IsLawful study → AllByRecursion (IsLawfulScan study.model study.buses) study.scans → AllByRecursion (CanScan study) study.scans → HoldsOfStudy study
+pub study_holds : (study : Study) → IsLawful study → AllByRecursion (IsLawfulScan study.version study.model study.buses) study.scans → AllByRecursion (CanScan study) study.scans → HoldsOfStudy study
 study_holds study b all can = all_hold study study.scans b all can
 
 -- ---- boxes
@@ -103,13 +103,13 @@ small_scale : (scale : ℕ) → (scale ≡ 40) ⊎ (scale ≡ 48) → scale ≤ 
 small_scale scale (inl e) = omega (arith, e)
 small_scale scale (inr e) = omega (arith, e)
 
-pub scan_texts : (study : Study) (scan : ScanItem) → IsLawful study → IsLawfulScan study.model study.buses scan → AllByRecursion HasText (boxes_in study scan)
+pub scan_texts : (study : Study) (scan : ScanItem) → IsLawful study → IsLawfulScan study.version study.model study.buses scan → AllByRecursion HasText (boxes_in study scan)
 unfolding boxes_in test_of
 scan_texts study scan b s =
     let r = spec_in_range study scan b s in
     boxes_have_text study.scale (levels_of (spec_of study scan)) _ (widths_of (spec_of study scan)) _ _ (small_scale study.scale b.scale) r.levels (some_width _ r) r.band
 
-pub scan_few : (study : Study) (scan : ScanItem) → IsLawful study → IsLawfulScan study.model study.buses scan → length (boxes_in study scan) < most_boxes
+pub scan_few : (study : Study) (scan : ScanItem) → IsLawful study → IsLawfulScan study.version study.model study.buses scan → length (boxes_in study scan) < most_boxes
 unfolding boxes_in
 scan_few study scan b s =
     let r = spec_in_range study scan b s in

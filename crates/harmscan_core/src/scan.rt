@@ -31,7 +31,7 @@ pub fn micro(order: Decimal) -> u32
 
 /// What a scan is asked.
 fn spec_of(study: &Study, scan: &ScanItem) -> ScanSpec
-    requires { IsLawfulScan study.now.model study.now.buses scan.now }
+    requires { IsLawfulScan study.now.version study.now.model study.now.buses scan.now }
     ensures { result ≡ spec_of study.now scan.now }
 {
     ScanSpec {
@@ -65,7 +65,7 @@ pub fn walk_of<E: Enclosure>(
 ) -> Result<Scan<E>, AllocError>
     requires study { IsBuilt study.now }
     requires network { IsNetworkOf study.now scan.now.network network.now }
-    requires scan { IsLawfulScan study.now.model study.now.buses scan.now }
+    requires scan { IsLawfulScan study.now.version study.now.model study.now.buses scan.now }
     requires live { Live (network_of study.now scan.now.network) scan.now.bus }
     requires scale { E.SCALE ≡ study.now.scale }
     ensures can { OnOk result (CanScan study.now scan.now) }
