@@ -1,8 +1,9 @@
-mod Raw
+pub mod Raw
 mod Rows
-mod Law
+pub mod Law
 mod Worked
 mod Products
 mod Greatest
 mod Placed
 mod Shape
+pub mod Sizes
