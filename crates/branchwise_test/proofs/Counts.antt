@@ -25,7 +25,7 @@ use Rattle.branchwise_laws.specs.Places.{place, NodesFirst}
 use Rattle.branchwise_laws.specs.Wholes.{rounded_up, count_at, WholeSizes, node_up, edge_up as edge_of, far_up, reach_up, PassesWhole}
 use Rattle.branchwise_test.specs.Drops.{DropEnds}
 use Rattle.branchwise_test.specs.Sizes.{Bounds}
-use Rattle.branchwise_test.specs.Reach.{add_up, products_from, edge_from as edge_up, Reached, reach, weights_over, theta_over, Contraction, contraction}
+use Rattle.branchwise_test.specs.Reach.{add_up, products_from, with_edge, edge_from as edge_up, Reached, reach, weights_over, theta_over, Contraction, contraction}
 use Rattle.branchwise_test.proofs.Zips.{same_length, each_below, zip_got, each_got, each_length, each_two_got, each_two_length, get_or-map, got}
 use Rattle.branchwise_test.proofs.Middles.{kept_is}
 
@@ -138,8 +138,8 @@ module _ (s : ℕ) (ordering : List ℕ) (links : List Link) (drops : List DropE
   edge_is N ns h [] (t ∷ ts) z sum r e = absurd z
   edge_is N ns h (p ∷ ps) [] z sum r e = absurd z
   edge_is N ns h (p ∷ ps) (t ∷ ts) z sum r e =
-      let (n, e1, n1) = bind-some (slice_get ns p.place) (λ n. add_up s sum (mag_of p.ratio) n >>= (λ more. edge_up s more ps ns)) r e in
-      let (more, e2, n2) = bind-some (add_up s sum (mag_of p.ratio) n) (λ more. edge_up s more ps ns) r n1 in
+      let (more, e0, n2) = bind-some (with_edge s sum p ns) (λ more. edge_up s more ps ns) r e in
+      let (n, e1, e2) = bind-some (slice_get ns p.place) (add_up s sum (mag_of p.ratio)) more e0 in
       let (is, below) = place_is ordering t.node p.place z.0.place in
       let here : N (place ordering t.node) ≡ n = ap N is ∙ (h p.place below ∙ got 0 ns p.place n e1) in
       let one = add_up_is s sum (mag_of p.ratio) n more e2 in

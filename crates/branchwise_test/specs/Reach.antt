@@ -18,13 +18,14 @@ products_from s sum [] vs = Some sum
 products_from s sum (e ∷ es) [] = Some sum
 products_from s sum (e ∷ es) (v ∷ vs) = add_up s sum e v >>= (λ more. products_from s more es vs)
 
--- so for the taps: the greatest size of the ratio, and the number at the tap's place
+-- so for a tap: the greatest size of the ratio, and the number at the tap's place
+abbrev pub with_edge : ℕ → ℕ → PlacedTap → List ℕ → Option ℕ
+with_edge s sum t ns = slice_get ns t.place >>= add_up s sum (mag_of t.ratio)
+
+-- and for each tap
 abbrev pub edge_from : ℕ → ℕ → List PlacedTap → List ℕ → Option ℕ
 edge_from s sum [] ns = Some sum
-edge_from s sum (t ∷ taps) ns = do
-  n ← slice_get ns t.place
-  more ← add_up s sum (mag_of t.ratio) n
-  edge_from s more taps ns
+edge_from s sum (t ∷ taps) ns = with_edge s sum t ns >>= (λ more. edge_from s more taps ns)
 
 -- what sizes of drops reach: what (unit - C·P) makes of them at each drop alone, and with what the rests add
 pub record Reached : Type 0 where
