@@ -1,8 +1,11 @@
 // What a scan is asked, and what it says of one box.
 ghost use Rattle.std.specs.Prelude.{◌≡◌};
-ghost use Rattle.band_subdivision.specs.ScanSpec.{levels_of};
+ghost use Rattle.band_subdivision.specs.Boxes.{IsTestable};
+ghost use Rattle.band_subdivision.specs.Levels.{IsKept, levels_in};
+ghost use Rattle.band_subdivision.specs.ScanSpec.{HasLevels, levels_of};
 
-use crate::interval_test::ScanLevels;
+use crate::scan_levels::ScanLevels;
+use exact_fraction::Fraction;
 use fixed_decimal::Decimal;
 
 /// The band of a scan, how far it is split, and what the impedance is compared with.
@@ -14,7 +17,7 @@ pub struct ScanSpec {
     pub to: u32,
     /// The width in micro-orders down to which boxes are split: in `Range::FINEST`, and `MAX_WIDTHS` of them are as wide as the band.
     pub finest: u32,
-    /// The width in micro-orders from which on peaks are named: in `Range::LOCATE`, and at least `finest`.
+    /// The width in micro-orders from which on peaks are named and the certified inverse is tried: in `Range::LOCATE`, and at least `finest`.
     pub locate: u32,
     /// The threshold, in ohms: in `Range::ABOVE_ZERO`.
     pub threshold: Decimal,
@@ -22,17 +25,20 @@ pub struct ScanSpec {
     pub kv: Decimal,
     /// The base power, in MVA: in `Range::BASE_MVA`.
     pub mva: Decimal,
-    /// Whether the certified inverse is tried too. Not yet.
+    /// Whether the certified inverse is tried too, where elimination doesn't pass.
     pub both: bool,
 }
 
 impl ScanSpec {
-    /// The threshold and the base values.
-    pub fn levels(&self) -> ScanLevels
-        ensures { result ≡ levels_of self.now }
+    /// The threshold and the base values of the box from `lo` to `hi`.
+    pub fn levels(&self, lo: u32, hi: u32) -> ScanLevels
+        requires levels { HasLevels self.now }
+        requires orders { IsTestable self.now.from lo hi }
+        ensures value { levels_in result ≡ levels_of self.now lo hi }
+        ensures in_range { IsKept result }
     {
         ScanLevels {
-            threshold: self.threshold,
+            threshold: Fraction { num: self.threshold.millionths as i128, den: 1 },
             kv: self.kv,
             mva: self.mva,
         }
