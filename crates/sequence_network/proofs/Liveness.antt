@@ -57,7 +57,7 @@ buses_of study sequence = same_buses study sequence (bus_nodes study) 1 (element
 pub buses_within : (study : Study) (sequence : Sequence) (n : Network) → n ≡ network_of study sequence → n.buses ≤ n.nodes → length study.buses ≤ n.nodes
 buses_within study sequence n e h = omega (arith, ap (λ (m : Network). m.buses) e, buses_of study sequence)
 
-pub scans_within : (study : Study) (scans : List ScanItem) (nodes : ℕ) → scans ≡ study.scans → All (IsLawfulScan study.model study.buses) study.scans → length study.buses ≤ nodes → All (λ s. s.bus < nodes) scans
+pub scans_within : (study : Study) (scans : List ScanItem) (nodes : ℕ) → scans ≡ study.scans → All (IsLawfulScan study.version study.model study.buses) study.scans → length study.buses ≤ nodes → All (λ s. s.bus < nodes) scans
 scans_within study scans nodes e all h = subst (λ (l : List ScanItem). All (λ s. s.bus < nodes) l) (sym e) (λ k d l. let lawful = all k d l in omega (arith, lawful.bus))
 
 -- refusals of one network as those of another
