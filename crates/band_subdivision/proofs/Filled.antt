@@ -63,6 +63,15 @@ enclosed_is s lo hi last rows susceptance y sum el ey es =
     let third : enclosure s (length more - 1) more ≡ last_enclosure s (with_last s susceptance lo hi rows) = ap (last_enclosure s) (sym made) in
     first ∙ second ∙ third
 
+-- the first answer where there is one, else the second
+kept_first : (o p : Option ℤ) → is_some o ≡ true → or_else o p ≡ o
+kept_first (Some x) p e = refl
+kept_first None p e = absurd cc
+
+kept_second : (o p : Option ℤ) → is_some o ≡ false → or_else o p ≡ p
+kept_second (Some x) p e = absurd cc
+kept_second None p e = refl
+
 -- ---- the test of a box by its filled matrix
 module _ (s : ℕ) (asked : Asked) (low high : Network) (ordering : List ℕ) (e : Ratio) (lo hi : ℕ) where
   abbrev levels : Levels
@@ -142,9 +151,10 @@ module _ (s : ℕ) (asked : Asked) (low high : Network) (ordering : List ℕ) (e
     clear_first bound t eb et passed =
         sym (clear_is ∙ ap (λ u. u || (is_near asked.both asked.locate lo hi && is_within_by (most_within s levels) (pair_enclosure s low high ordering e lo hi))) (first_clear bound t eb et ∙ passed))
 
-    pub above_first : (bound : Option ℤ) (ohms : ℤ) → bound ≡ above_bound s kept → Some ohms ≡ ohms_above_by s kept bound y → Some ohms ≡ (pair_test s asked low high ordering e).above lo hi
-    above_first bound ohms eb eo =
-        sym (above_is ∙ ap (λ o. or_else o (if is_near asked.both asked.locate lo hi then ohms_over_by s levels (least_above s levels) (pair_enclosure s low high ordering e lo hi) else None)) (first_above bound (Some ohms) eb eo))
+    pub above_first : (bound o : Option ℤ) → bound ≡ above_bound s kept → o ≡ ohms_above_by s kept bound y → is_some o ≡ true → o ≡ (pair_test s asked low high ordering e).above lo hi
+    above_first bound o eb eo passed =
+        sym (above_is ∙ ap (λ o. or_else o (if is_near asked.both asked.locate lo hi then ohms_over_by s levels (least_above s levels) (pair_enclosure s low high ordering e lo hi) else None)) (first_above bound o eb eo)
+        ∙ kept_first o _ passed)
 
     module _ (bench : Option ℕ) (near : Bool) (z : InverseOutcome) (eb : bench ≡ inverse_size asked.both ordering) (en : near ≡ nat_le (hi - lo) asked.locate)
         (ez : z ≡ (if is_some bench && near then last_enclosure s (with_last s susceptance lo hi rows) else OutOfRange)) where
@@ -161,9 +171,9 @@ module _ (s : ℕ) (asked : Asked) (low high : Network) (ordering : List ℕ) (e
           er ∙ ap₂ is_within_by (ap (most_within s) el) enclosed_here ∙ within_asked (is_near asked.both asked.locate lo hi) (most_within s levels) (pair_enclosure s low high ordering e lo hi) in
           within ∙ sym (clear_is ∙ ap (λ u. u || (is_near asked.both asked.locate lo hi && is_within_by (most_within s levels) (pair_enclosure s low high ordering e lo hi))) (first_clear bound t eb et ∙ failed))
 
-      pub above_second : (bound : Option ℤ) (r : Option ℤ) → bound ≡ above_bound s kept → None ≡ ohms_above_by s kept bound y → r ≡ ohms_over_by s kept (least_above s kept) z → r ≡ (pair_test s asked low high ordering e).above lo hi
-      above_second bound r eb eo er =
+      pub above_second : (bound o r : Option ℤ) → bound ≡ above_bound s kept → o ≡ ohms_above_by s kept bound y → is_some o ≡ false → r ≡ ohms_over_by s kept (least_above s kept) z → r ≡ (pair_test s asked low high ordering e).above lo hi
+      above_second bound o r eb eo failed er =
           let moved : ohms_over_by s kept (least_above s kept) z ≡ ohms_over_by s levels (least_above s levels) z = ap (λ l. ohms_over_by s l (least_above s l) z) el in
           let over : r ≡ (if is_near asked.both asked.locate lo hi then ohms_over_by s levels (least_above s levels) (pair_enclosure s low high ordering e lo hi) else None) =
           er ∙ moved ∙ ap (ohms_over_by s levels (least_above s levels)) enclosed_here ∙ over_asked (is_near asked.both asked.locate lo hi) s levels (least_above s levels) (pair_enclosure s low high ordering e lo hi) in
-          over ∙ sym (above_is ∙ ap (λ o. or_else o (if is_near asked.both asked.locate lo hi then ohms_over_by s levels (least_above s levels) (pair_enclosure s low high ordering e lo hi) else None)) (first_above bound None eb eo))
+          over ∙ sym (above_is ∙ ap (λ o. or_else o (if is_near asked.both asked.locate lo hi then ohms_over_by s levels (least_above s levels) (pair_enclosure s low high ordering e lo hi) else None)) (first_above bound o eb eo) ∙ kept_second o _ failed)

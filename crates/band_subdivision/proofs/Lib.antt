@@ -18,3 +18,4 @@ pub mod InverseSound
 pub mod Enclosures
 pub mod PairSound
 pub mod Filled
+pub mod Curves

@@ -1,9 +1,7 @@
 -- Scans that begin, and what is true of their boxes.
 use Rattle.std.proofs.lemmas.Int.{ints}
-use Rattle.std.proofs.Common.{◌≡◌, Bool, ◌∙◌, ℕ, ◌≤◌, ◌<◌, ◌-◌, ◌+◌, ◌*◌, ◌^◌, List, [], ◌∷◌, ℤ, pos, ◌*ℤ◌, ◌≤ℤ◌, true, length, map, Option, Some, None, refl, sym, arith, append-nil}
+use Rattle.std.proofs.Common.{◌≡◌, Bool, ◌∙◌, ℕ, ◌≤◌, ◌<◌, ◌-◌, ◌+◌, ◌*◌, List, [], ◌∷◌, ℤ, pos, ◌≤ℤ◌, true, length, map, Option, Some, None, refl, sym, arith, append-nil}
 use Rattle.std.specs.Prelude.{IfSome}
-use Rattle.exact_algebra.specs.Ratio.{den, ◌≈◌, over, times, common}
-use Rattle.complex_interval.proofs.Ranges.{same_value}
 use Rattle.network_theory.specs.Box.{Covers}
 use Rattle.network_theory.specs.Network.{Network}
 use Rattle.admittance_box.specs.HeldMatrix.{CanAssemble}
@@ -13,32 +11,16 @@ use Rattle.band_subdivision.specs.Cover.{span_of}
 use Rattle.band_subdivision.specs.Left.{boxes_left}
 use Rattle.band_subdivision.specs.PairTruth.{scanned_in, IsTrueForEach, IsClearForEach, IsAboveForEach}
 use Rattle.band_subdivision.specs.Scan.{Scanning, test_of, IsScan}
-use Rattle.band_subdivision.specs.Levels.{AreLevelsOf, in_ohms_of}
-use Rattle.band_subdivision.specs.ScanSpec.{IsScanSpec, HasLevels, threshold_of, levels_of, asked_of, widths_of}
+use Rattle.band_subdivision.specs.ScanSpec.{IsScanSpec, asked_of, widths_of}
 use Rattle.band_subdivision.specs.declared.scan_spec.ScanSpec.{ScanSpec}
 use Rattle.band_subdivision.specs.Stack.{Band, IsStack, split_top}
 use Rattle.band_subdivision.specs.Testing.{Testing, box_test}
 use Rattle.band_subdivision.proofs.Covering.{boxes_cover}
 use Rattle.band_subdivision.proofs.Levels.{HasTop, top_above, top_testable, stack_split}
-use Rattle.band_subdivision.proofs.Lifts.{at_most_along}
+use Rattle.band_subdivision.proofs.Curves.{levels_hold}
 use Rattle.band_subdivision.proofs.PairSound.{pair_is_sound}
 use Rattle.band_subdivision.proofs.Truths.{kind_true}
 use Rattle.scan_report.specs.declared.boxes.Kind.{Kind}
-
--- ---- levels
--- one threshold for every order: that of each box
-flat_ohms : (t : ℤ) → in_ohms_of (over t 1) ≈ over t (10 ^ 6)
-unfolding times common den
-flat_ohms t = record { cross = omega (arith, ints) }
-
-pub levels_hold : (spec : ScanSpec) → HasLevels spec → AreLevelsOf spec.from (threshold_of spec) spec.kv spec.mva (levels_of spec)
-levels_hold spec h = record {
-  in_range = λ lo hi testable. record { some = h.threshold.0; kv = h.kv; mva = h.mva };
-  same_kv = λ lo hi. refl;
-  same_mva = λ lo hi. refl;
-  below = λ lo hi order testable is_order inside. at_most_along _ _ _ (flat_ohms spec.threshold) (same_value (over spec.threshold (10 ^ 6)));
-  reached = λ at testable. flat_ohms spec.threshold;
-}
 
 -- ---- beginnings
 -- a node ordering has the driven node

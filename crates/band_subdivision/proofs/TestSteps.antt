@@ -1,7 +1,7 @@
 -- Sizes of the numbers of an interval test.
 use Rattle.std.proofs.Common.{◌≡◌, ℕ, zero, suc, ◌+◌, ◌*◌, ◌-◌, ◌/◌, ◌^◌, ◌≤◌, ◌<◌, ℤ, pos, negsuc, ◌*ℤ◌, ◌≤ℤ◌, unsigned_abs, Bool, true, false, nat_le, refl, ap, ◌∙◌, to_z, of_z, FitsSigned, arith}
 use Rattle.std.specs.Int.{w128}
-use Rattle.std.specs.Prelude.{if◌then◌else◌, min, max, int_le, ◌&&◌}
+use Rattle.std.specs.Prelude.{if◌then◌else◌, min, max}
 use Rattle.std.proofs.Math.Nat.{div-le_self}
 use Rattle.std.proofs.lemmas.Bool.Decides.{nat_tests}
 use Rattle.std.proofs.lemmas.Int.{ints, to_z-of_z}
@@ -210,8 +210,3 @@ below_some scale levels h =
 pub micro_ohms_from_is : (scale : ℕ) (levels : Levels) (size k m u : ℕ) → k ≡ unsigned_abs levels.kv → m ≡ unsigned_abs levels.mva → u ≡ 2 ^ scale → size * (k * k) / (u * m) ≡ micro_ohms_from scale levels size
 unfolding micro_ohms_from
 micro_ohms_from_is scale levels size k m u ek em eu = rw (ek, em, eu) refl
-
--- a size against a bound with a sign
-pub at_most_is : (z : ℤ) (n : ℕ) → int_le (pos 0) z && nat_le n (unsigned_abs z) ≡ int_le (pos n) z
-at_most_is (pos m) n = refl
-at_most_is (negsuc m) n = refl

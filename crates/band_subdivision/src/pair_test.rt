@@ -139,14 +139,13 @@ impl<E: Enclosure> PairTest<E> {
                 let levels = self.spec.levels(lo, hi);
                 let susceptance = self.susceptance;
                 let y = admittance(&mut self.bench, &self.matrix, susceptance, lo, hi);
-                match ohms_of(&levels, bound_to_name::<E>(&levels), y) {
-                    Some(ohms) => Some(ohms),
-                    None => {
-                        let near = hi - lo <= self.spec.locate;
-                        let z = impedance(&mut self.inverse, near, &mut self.matrix, susceptance, lo, hi);
-                        ohms_over(E::SCALE, &levels, z)
-                    }
+                let ohms = ohms_of(&levels, bound_to_name::<E>(&levels), y);
+                if ohms.is_some() {
+                    return ohms;
                 }
+                let near = hi - lo <= self.spec.locate;
+                let z = impedance(&mut self.inverse, near, &mut self.matrix, susceptance, lo, hi);
+                ohms_over(E::SCALE, &levels, z)
             }
         }
     }

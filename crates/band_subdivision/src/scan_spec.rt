@@ -5,8 +5,9 @@ ghost use Rattle.band_subdivision.specs.Levels.{IsKept, levels_in};
 ghost use Rattle.band_subdivision.specs.ScanSpec.{HasLevels, levels_of};
 
 use crate::scan_levels::ScanLevels;
-use exact_fraction::Fraction;
 use fixed_decimal::Decimal;
+use study_model::Curve;
+use threshold_curve::least_over;
 
 /// The band of a scan, how far it is split, and what the impedance is compared with.
 #[derive(Clone, Copy)]
@@ -19,8 +20,8 @@ pub struct ScanSpec {
     pub finest: u32,
     /// The width in micro-orders from which on peaks are named and the certified inverse is tried: in `Range::LOCATE`, and at least `finest`.
     pub locate: u32,
-    /// The threshold, in ohms: in `Range::ABOVE_ZERO`.
-    pub threshold: Decimal,
+    /// The threshold over the orders: a lawful curve that spans the band.
+    pub curve: Curve,
     /// The nominal voltage of the scanned bus, in kV: in `Range::BUS_KV`.
     pub kv: Decimal,
     /// The base power, in MVA: in `Range::BASE_MVA`.
@@ -30,7 +31,7 @@ pub struct ScanSpec {
 }
 
 impl ScanSpec {
-    /// The threshold and the base values of the box from `lo` to `hi`.
+    /// The least of the threshold from `lo` to `hi`, and the base values.
     pub fn levels(&self, lo: u32, hi: u32) -> ScanLevels
         requires levels { HasLevels self.now }
         requires orders { IsTestable self.now.from lo hi }
@@ -38,7 +39,7 @@ impl ScanSpec {
         ensures in_range { IsKept result }
     {
         ScanLevels {
-            threshold: Fraction { num: self.threshold.millionths as i128, den: 1 },
+            threshold: least_over(&self.curve, lo, hi),
             kv: self.kv,
             mva: self.mva,
         }

@@ -34,6 +34,7 @@ returns-then-is_clear_of-clause-value g c =
 
 pub returns-else-is_clear_of-clause-value : goal.returns-else-is_clear_of-clause-value
 returns-else-is_clear_of-clause-value g c =
+    let told = rw c.SCALE.ensures at c.is_within.ensures in
     let s = g.E.Enclosure.SCALE in
     let t = c.self.inside in
     let a = t.assembly in
@@ -41,4 +42,4 @@ returns-else-is_clear_of-clause-value g c =
     (clear_second s (asked_of t.spec) a.low a.high a.ordering (ratio_of t.extra) c.args.lo c.args.hi c.fill.new.matrix.rows (levels_in c.levels-levels.result) (option_map g.E.Enclosure.ends t.susceptance)
     (option_map (rectangle_of g.E.Enclosure.ends) c.admittance-y.result) (ap result_ok c.in-Filled.ensures.stated) c.levels-levels.ensures.value c.self.invariant.1.is c.admittance-y.ensures.value
     t.inverse _ c.impedance-z.result c.self.invariant.2 refl c.impedance-z.ensures.value
-    c.bound_to_clear.result c.is_clear_of.result c.is_within.result c.bound_to_clear.ensures c.is_clear_of.ensures c.if-is_clear_of.false c.is_within.ensures)
+    c.bound_to_clear.result c.is_clear_of.result c.is_within.result c.bound_to_clear.ensures c.is_clear_of.ensures c.if-is_clear_of.false told)
