@@ -179,9 +179,9 @@ module _ (s : ℕ) (ordering : List ℕ) (network : Network) (listed : ListsLive
         correction_holds (d ∷ ds) (l ∷ ls) [] xs hd hu hx sum after z e hz = absurd hu
         correction_holds (d ∷ ds) (l ∷ ls) (v ∷ us) [] hd hu hx sum after z e hz = absurd hx
         correction_holds (d ∷ ds) (l ∷ ls) (v ∷ us) (x ∷ xs) hd hu hx sum after z e hz =
-            let (voltage, e1, n1) = bind-some _ _ after e in
-            let (term, e2, n2) = bind-some _ _ after n1 in
-            let (more, e3, n3) = bind-some _ _ after n2 in
+            let (more, e0, n3) = bind-some _ _ after e in
+            let (voltage, e1, n1) = bind-some _ _ more e0 in
+            let (term, e2, e3) = bind-some _ _ more n1 in
             let K = drop (C k) l.out in
             let X = drop (λ n. C n k) l.taps in
             let hk = item_at (λ n a. EnclosesComplex s a (drop (C n) l.out)) k ordering v i voltage place e1 hu.0 in

@@ -33,20 +33,31 @@ abbrev pub or_else : Option Rectangle → Option Rectangle → Option Rectangle
 or_else (Some a) o = Some a
 or_else None o = o
 
--- (K·X)·D, or K·(X·D) where that has no value
-unfoldable pub moved : ℕ → Rectangle → Rectangle → Rectangle → Option Rectangle
-moved s k x d = or_else (mul_rectangles s k x >>= (λ kx. mul_rectangles s kx d)) (mul_rectangles s x d >>= (λ xd. mul_rectangles s k xd))
+-- (K·X)·D
+abbrev pub moved_first : ℕ → Rectangle → Rectangle → Rectangle → Option Rectangle
+moved_first s k x d = mul_rectangles s k x >>= (λ kx. mul_rectangles s kx d)
 
--- the sum, and on top of it this product for each drop: its current's voltage at the driven node, its drop at the driven node's column, and its rest
+-- K·(X·D)
+abbrev pub moved_last : ℕ → Rectangle → Rectangle → Rectangle → Option Rectangle
+moved_last s k x d = mul_rectangles s x d >>= (λ xd. mul_rectangles s k xd)
+
+-- the first of these, or the second where that has no value
+unfoldable pub moved : ℕ → Rectangle → Rectangle → Rectangle → Option Rectangle
+moved s k x d = or_else (moved_first s k x d) (moved_last s k x d)
+
+-- the sum, and on top of it this product for a drop: its current's voltage at the driven node, the drop at the driven node's column, and its rest
+abbrev pub with_term : ℕ → ℕ → Rectangle → DropEnds → List Rectangle → Rectangle → Option Rectangle
+with_term s k sum d v x = do
+  voltage ← slice_get v k
+  term ← moved s voltage x d.rest
+  add_rectangles sum term
+
+-- so for each drop
 abbrev pub correction : ℕ → ℕ → Rectangle → List DropEnds → List (List Rectangle) → List Rectangle → Option Rectangle
 correction s k sum [] vs xs = Some sum
 correction s k sum (d ∷ ds) [] xs = None
 correction s k sum (d ∷ ds) (v ∷ vs) [] = None
-correction s k sum (d ∷ ds) (v ∷ vs) (x ∷ xs) = do
-  voltage ← slice_get v k
-  term ← moved s voltage x d.rest
-  more ← add_rectangles sum term
-  correction s k more ds vs xs
+correction s k sum (d ∷ ds) (v ∷ vs) (x ∷ xs) = with_term s k sum d v x >>= (λ more. correction s k more ds vs xs)
 
 -- where the sizes contract: the driven node's own entry less the correction, and the error
 abbrev pub near_by : ℕ → ℕ → List DropEnds → List (List Rectangle) → List Rectangle → List Rectangle → Contraction → Option Near

@@ -45,9 +45,12 @@ left_row s ps unit factors = row_left s ps unit factors >>= each kept_size
 abbrev pub left_sizes : ℕ → List (List Rectangle) → List (List Rectangle) → Option (List (List ℕ))
 left_sizes s cs ps = each_two (left_row s ps) (unit_rectangles s (length ps)) cs
 
--- the sizes of the drops of these taps at each of these lists of voltages
+-- the size of the drop of these taps at these voltages, and at each list of voltages
+abbrev pub drop_size : ℕ → List PlacedTap → List Rectangle → Option ℕ
+drop_size s taps v = drop_over s taps v >>= kept_size
+
 abbrev pub drop_sizes : ℕ → List PlacedTap → List (List Rectangle) → Option (List ℕ)
-drop_sizes s taps vs = each (λ v. drop_over s taps v >>= kept_size) vs
+drop_sizes s taps vs = each (drop_size s taps) vs
 
 -- bounds of sizes: of the entries of (unit - C·P); of each drop where the current 1 flows in through each; and of the rests
 pub record Bounds : Type 0 where
