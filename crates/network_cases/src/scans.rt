@@ -185,20 +185,16 @@ const BOXES_OF_A_COIL: [Row; 2] = [
     ),
 ];
 
+// At both scales, and between the network and itself.
 #[test]
 fn a_coil_is_above_at_both_middles(rt: HostRuntime) -> Result<(), Fail> {
     let network = one_bus(rt.alloc(), ZERO)?;
     let rows = BOXES_OF_A_COIL;
     expect_scan::<Span<40>>(&rt, rt.alloc(), &network, 0, COIL, rows.as_slice())?;
-    expect_scan::<Span<48>>(&rt, rt.alloc(), &network, 0, COIL, rows.as_slice())
-}
-
-#[test]
-fn a_scan_between_a_network_and_itself(rt: HostRuntime) -> Result<(), Fail> {
-    let network = one_bus(rt.alloc(), ZERO)?;
+    expect_scan::<Span<48>>(&rt, rt.alloc(), &network, 0, COIL, rows.as_slice())?;
     let spec = spec_of(COIL)?;
     let mut scan: Scan<Span<40>> = scan_between(rt.alloc(), &network, &spec)?;
-    expect_boxes(&rt, &mut scan, BOXES_OF_A_COIL.as_slice());
+    expect_boxes(&rt, &mut scan, rows.as_slice());
     Ok(())
 }
 
