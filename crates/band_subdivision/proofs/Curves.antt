@@ -1,5 +1,5 @@
 -- The levels of boxes by a curve.
-use Rattle.std.proofs.Common.{◌≡◌, ◌∙◌, ℕ, zero, suc, ◌+◌, ◌*◌, ◌-◌, ◌^◌, ◌≤◌, ◌<◌, ℤ, pos, ◌≤ℤ◌, Bool, true, false, nat_le, List, [], ◌∷◌, inl, inr, refl, sym, subst, arith}
+use Rattle.std.proofs.Common.{◌≡◌, ℕ, suc, ◌+◌, ◌*◌, ◌-◌, ◌^◌, ◌≤◌, ◌<◌, pos, ◌≤ℤ◌, Bool, true, false, nat_le, List, [], ◌∷◌, inl, inr, refl, sym, subst, arith}
 use Rattle.std.specs.Prelude.{nat_lt, if◌then◌else◌, slice_get, IsSomeAnd}
 use Rattle.std.specs.List.{AllByRecursion}
 use Rattle.std.specs.List.Sorted.{IsStrictlyIncreasing}
@@ -7,21 +7,20 @@ use Rattle.std.proofs.lemmas.Bool.Decides.{nat_tests}
 use Rattle.std.proofs.lemmas.Int.{ints}
 use Rattle.std.proofs.lemmas.List.Elements.{recursion_from_All}
 use Rattle.std.proofs.lemmas.Nat.{mul-le}
-use Rattle.exact_algebra.specs.Ratio.{Ratio, over, ◌≈◌, ◌≼◌, plus, times, opposite, whole}
+use Rattle.exact_algebra.specs.Ratio.{Ratio, over, ◌≈◌, ◌≼◌, times}
 use Rattle.exact_algebra.proofs.Reader.{reads, ring, none_left}
 use Rattle.exact_algebra.proofs.Ratios.{ratio_ring, num-whole}
 use Rattle.exact_algebra.proofs.Order.{NotNegative, ratio_order, at_most_is}
 use Rattle.network_theory.specs.Order.{Order, IsOrder}
 use Rattle.network_theory.specs.Box.{LiesIn}
 use Rattle.network_theory.specs.Scanned.{micro}
-use Rattle.study_model.specs.Curve.{curve_points, curve_orders, IsLawfulPoint, IsLawfulCurve}
+use Rattle.study_model.specs.Curve.{curve_points, curve_orders, IsLawfulPoint}
 use Rattle.study_model.specs.declared.curve.CurvePoint.{CurvePoint}
 use Rattle.threshold_curve.specs.Curve.{between, value_from, value_at, IsRising, BeginsBy, curve_at, lesser, least_from, least_over}
 use Rattle.threshold_curve.proofs.Least.{least_is_below, least_is_reached}
 use Rattle.threshold_curve.proofs.Lesser.{lesser_is}
 use Rattle.threshold_curve.proofs.Lines.{over_is}
 use Rattle.threshold_curve.proofs.Rising.{are_rising}
-use Rattle.band_subdivision.specs.Boxes.{IsTestable}
 use Rattle.band_subdivision.specs.Levels.{AreLevelsOf, orders, in_ohms_of}
 use Rattle.band_subdivision.specs.ScanSpec.{HasLevels, threshold_of, levels_of}
 use Rattle.band_subdivision.specs.declared.scan_spec.ScanSpec.{ScanSpec}

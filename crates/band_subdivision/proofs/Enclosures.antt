@@ -1,13 +1,13 @@
 -- The enclosed impedances of a pair of networks hold the exact ones.
-use Rattle.std.proofs.Common.{◌≡◌, ◌≢◌, ◌∙◌, ℕ, zero, suc, ◌-◌, ◌<◌, ℤ, pos, ◌≤ℤ◌, Bool, true, false, List, [], ◌∷◌, ◌++◌, length, map, get_or, replicate, slice_get, Option, Some, None, Result, Ok, Err, refl, sym, ap, subst, arith, inl, inr}
+use Rattle.std.proofs.Common.{◌≡◌, ◌≢◌, ◌∙◌, ℕ, zero, suc, ◌-◌, ◌<◌, ℤ, pos, ◌≤ℤ◌, Bool, true, false, List, [], ◌∷◌, ◌++◌, length, map, get_or, replicate, slice_get, Option, Some, None, refl, sym, ap, subst, arith}
 use Rattle.std.specs.Prelude.{int_lt, if◌then◌else◌, slice_set}
 use Rattle.std.specs.List.{AllZip, AllByRecursion}
 use Rattle.exact_algebra.specs.Ratio.{Ratio, ◌≈◌, whole}
-use Rattle.exact_algebra.specs.Complex.{Complex, complex_numbers, complex_plus, complex_whole}
+use Rattle.exact_algebra.specs.Complex.{Complex, complex_numbers, complex_plus}
 use Rattle.exact_algebra.proofs.Complexes.{complex_field}
 use Rattle.exact_algebra.proofs.Ratios.{num_nought}
 use Rattle.exact_algebra.proofs.Reader.{reads, linear, weigh, join, none_left}
-use Rattle.linear_systems.specs.Linear.{IsSquare, HasOneSolution}
+use Rattle.linear_systems.specs.Linear.{HasOneSolution}
 use Rattle.complex_interval.specs.Ends.{range_ends}
 use Rattle.complex_interval.specs.Rectangles.{Rectangle, EnclosesComplex}
 use Rattle.network_theory.specs.Order.{Order, IsOrder}
@@ -18,16 +18,15 @@ use Rattle.network_theory.specs.Extra.{shunt_at, with_shunt}
 use Rattle.network_theory.specs.Impedance.{shunt_admittance}
 use Rattle.network_theory.specs.Admittance.{Part, Alone}
 use Rattle.network_theory.specs.DrivingPoint.{unit_at}
-use Rattle.network_theory.specs.Nodal.{nodal_entry, IsDistinct, IsNodal, IsNodalSystem, IsLast}
+use Rattle.network_theory.specs.Nodal.{nodal_entry, IsDistinct}
 use Rattle.network_theory.proofs.Driven.{nodal_square, impedance_of_solution, solves_right}
 use Rattle.network_theory.proofs.Extra.{entry-more, shunted_system}
 use Rattle.network_theory.proofs.Numbers.{R, one_at, one_at-same, one_at-apart}
 use Rattle.plain_elimination.specs.Elimination.{HoldsRows}
 use Rattle.plain_elimination.specs.Matrix.{entry, set_entry}
-use Rattle.certified_inverse.specs.Certificate.{unit_row, enclosure, IsEnclosed}
-use Rattle.certified_inverse.specs.declared.outcome.InverseOutcome.TheVariants.{Enclosed, OutOfRange}
+use Rattle.certified_inverse.specs.Certificate.{unit_row, enclosure}
+use Rattle.certified_inverse.specs.declared.outcome.InverseOutcome.TheVariants.{Enclosed}
 use Rattle.certified_inverse.proofs.Law.{enclosure_holds}
-use Rattle.admittance_box.specs.BoxMatrix.{box_matrix}
 use Rattle.admittance_box.specs.HeldMatrix.{CanAssemble, HoldsNodal}
 use Rattle.admittance_box.proofs.HeldMatrices.{box_matrix_holds}
 use Rattle.admittance_box.specs.Steps.{◌>>=◌}

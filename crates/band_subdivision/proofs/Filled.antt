@@ -1,7 +1,6 @@
 -- What the parts of a test say of a filled matrix.
-use Rattle.std.proofs.Common.{◌≡◌, ◌∙◌, ℕ, zero, suc, ◌-◌, ℤ, Bool, true, false, List, [], ◌∷◌, length, Option, Some, None, Result, Ok, Err, refl, sym, subst, ap, ap₂, nat_le}
+use Rattle.std.proofs.Common.{◌≡◌, ◌∙◌, ℕ, zero, suc, ◌-◌, ℤ, Bool, true, false, List, [], ◌∷◌, length, Option, Some, None, refl, sym, subst, ap, ap₂, nat_le}
 use Rattle.std.specs.Prelude.{◌&&◌, ◌||◌, if◌then◌else◌, is_some}
-use Rattle.std.specs.Result.{result_ok}
 use Rattle.exact_algebra.specs.Ratio.{Ratio}
 use Rattle.network_theory.specs.Network.{Network}
 use Rattle.complex_interval.specs.Ends.{Ends, range_ends}
@@ -55,8 +54,8 @@ enclosed_is s lo hi last rows susceptance y sum el ey es =
     let at : entry rows k k ≡ Some y = subst (λ i. entry rows i i ≡ Some y) el ey in
     let more = set_entry rows k k sum in
     let made : with_last s susceptance lo hi rows ≡ Some more =
-        bind_is (entry rows k k) (λ y. with_extra s susceptance lo hi y >>= (λ sum. Some (set_entry rows k k sum))) y (Some more) at
-        (bind_is (with_extra s susceptance lo hi y) (λ sum. Some (set_entry rows k k sum)) sum (Some more) (sym es) refl) in
+    bind_is (entry rows k k) (λ y. with_extra s susceptance lo hi y >>= (λ sum. Some (set_entry rows k k sum))) y (Some more) at
+    (bind_is (with_extra s susceptance lo hi y) (λ sum. Some (set_entry rows k k sum)) sum (Some more) (sym es) refl) in
     let count : length more ≡ length rows = length-set_entry rows k k sum in
     let first : enclosure s last (set_entry rows last last sum) ≡ enclosure s k more = ap (λ i. enclosure s i (set_entry rows i i sum)) el in
     let second : enclosure s k more ≡ enclosure s (length more - 1) more = ap (λ n. enclosure s (n - 1) more) (sym count) in

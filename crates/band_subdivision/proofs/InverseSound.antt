@@ -1,17 +1,16 @@
 -- The inverse part is sound.
-use Rattle.std.proofs.Common.{◌≡◌, ◌∙◌, ap, ℕ, zero, suc, ◌+◌, ◌-◌, ◌*◌, ◌^◌, ◌≤◌, ◌<◌, ℤ, pos, negsuc, ◌≤ℤ◌, ◌+ℤ◌, ◌*ℤ◌, unsigned_abs, nat_abs, Bool, true, false, Option, Some, None, refl, sym, subst, arith, [], ◌∷◌}
+use Rattle.std.proofs.Common.{◌≡◌, ap, ℕ, suc, ◌+◌, ◌-◌, ◌*◌, ◌^◌, ◌≤◌, ◌<◌, ℤ, pos, negsuc, ◌≤ℤ◌, ◌+ℤ◌, ◌*ℤ◌, unsigned_abs, nat_abs, Bool, true, false, Option, Some, None, refl, sym, subst, arith, [], ◌∷◌}
 use Rattle.std.specs.Prelude.{nat_le, nat_lt, int_le, if◌then◌else◌}
 use Rattle.std.proofs.lemmas.Bool.Decides.{nat_tests}
 use Rattle.std.proofs.lemmas.Int.{ints}
 use Rattle.std.proofs.lemmas.Nat.{mul-le, pow_pos}
-use Rattle.exact_algebra.specs.Ratio.{Ratio, den, over, ◌≈◌, ◌≼◌, ◌≺◌, plus, times, opposite, difference, magnitude, whole, reciprocal}
+use Rattle.exact_algebra.specs.Ratio.{Ratio, den, over, ◌≈◌, ◌≼◌, plus, times, opposite, difference, magnitude, whole, reciprocal}
 use Rattle.exact_algebra.specs.Complex.{Complex, complex_over, complex_difference, complex_size, real_part, imaginary_part, square_size}
 use Rattle.exact_algebra.proofs.Complexes.{re-complex_difference, im-complex_difference}
-use Rattle.exact_algebra.proofs.Reader.{reads, ring, linear, weigh, join, none_left}
+use Rattle.exact_algebra.proofs.Reader.{reads, linear, weigh, join, none_left}
 use Rattle.exact_algebra.proofs.Ratios.{ratio_ring, ratio_parts, one_apart, num-whole}
-use Rattle.exact_algebra.proofs.Integers.{int-mul_one}
 use Rattle.exact_algebra.proofs.Order.{NotNegative, ratio_order, at_most_is}
-use Rattle.exact_algebra.proofs.Quotients.{not_negative_in, square_not_negative}
+use Rattle.exact_algebra.proofs.Quotients.{square_not_negative}
 use Rattle.exact_algebra.proofs.Squares.{square_size-parts}
 use Rattle.exact_algebra.proofs.WholeOrder.{≤ℤ_trans, mul-le_pos}
 use Rattle.exact_fraction.specs.Scaled.{floor_scaled_of, ceil_scaled_of}
@@ -24,15 +23,15 @@ use Rattle.certified_inverse.proofs.Raw.{raw, num-raw, den-raw, raw-plus, raw-no
 use Rattle.network_theory.specs.Order.{Order}
 use Rattle.network_theory.specs.Network.{Network}
 use Rattle.network_theory.specs.DrivingPoint.{in_ohms}
-use Rattle.network_theory.specs.Threshold.{flat, IsWithin, IsAbove}
-use Rattle.network_theory.specs.Scanned.{micro, IsClearedAt, IsPeakAt, IsPeak}
+use Rattle.network_theory.specs.Threshold.{flat, IsAbove}
+use Rattle.network_theory.specs.Scanned.{micro, IsClearedAt, IsPeak}
 use Rattle.network_theory.proofs.Ohms.{ohms_square}
 use Rattle.band_subdivision.specs.Boxes.{IsTestable}
 use Rattle.band_subdivision.specs.InverseTest.{unit_threshold, most_within, least_above, point_square, root_floor_of, is_within_by, micro_ohms_from, ohms_over_by, inverse_test}
 use Rattle.band_subdivision.specs.Levels.{Levels, AreScanLevels, orders, in_ohms_of}
 use Rattle.band_subdivision.specs.Truth.{millionths, scanned_by, IsTruePeak, IsImpedanceNear, InverseTestIsSound}
 use Rattle.band_subdivision.proofs.Comparisons.{one, ohms_scaled}
-use Rattle.band_subdivision.proofs.LevelValues.{threshold_at, threshold_is, unit_natural, units, natural, millionth, millionths_are, power_apart, power_natural, ohms_from_below, den_positive}
+use Rattle.band_subdivision.proofs.LevelValues.{threshold_at, threshold_is, unit_natural, units, millionth, millionths_are, power_apart, power_natural, ohms_from_below, den_positive}
 use Rattle.band_subdivision.proofs.Lifts.{at_most_along, less_unless, clear_with, peak_with}
 use Rattle.band_subdivision.proofs.Near.{reach_up, reach_down, below_square, over_square, ohms_under}
 use Rattle.band_subdivision.proofs.Sound.{micro_is_order, micro_inside}
@@ -217,8 +216,8 @@ module _ (scale : ℕ) (network : Network) (h : Order) (node : ℕ) (re im : ℤ
       let y = imaginary_part Z in
       let R = raw scale n in
       let up = reach_up E x y (part scale re) (part scale im) (real_part away) (imaginary_part away) apart_re apart_im small R
-          (over_part scale n re (root_over (unsigned_abs re) (unsigned_abs im) n square)) (over_part scale n im (root_over (unsigned_abs im) (unsigned_abs re) n (omega (arith, square)))) (raw-not_negative scale n)
-          (squares_below scale re im n square) in
+      (over_part scale n re (root_over (unsigned_abs re) (unsigned_abs im) n square)) (over_part scale n im (root_over (unsigned_abs im) (unsigned_abs re) n (omega (arith, square)))) (raw-not_negative scale n)
+      (squares_below scale re im n square) in
       ratio_order.along
       (linear ratio_ring (R ∷ E ∷ x ∷ y ∷ raw scale (n + error) ∷ square_size Z ∷ [])
       (join ratio_ring (weigh ratio_ring (opposite (plus (raw scale (n + error)) (plus R E))) (raw-plus scale n error)) (weigh ratio_ring one (square_size-parts Z)))

@@ -1,5 +1,5 @@
 -- What is shown with the threshold of a box is true with that of each order.
-use Rattle.std.proofs.Common.{◌≡◌, ℕ, ℤ, pos, negsuc, ◌≤ℤ◌, ◌<ℤ◌, ◌*ℤ◌, refl, subst, arith, [], ◌∷◌}
+use Rattle.std.proofs.Common.{ℕ, ℤ, pos, ◌≤ℤ◌, ◌<ℤ◌, ◌*ℤ◌, refl, subst, arith, [], ◌∷◌}
 use Rattle.std.proofs.lemmas.Int.{ints, by_lt_z}
 use Rattle.exact_algebra.specs.Ratio.{Ratio, den, ◌≈◌, ◌≼◌, ◌≺◌, plus, times, opposite, whole, reciprocal}
 use Rattle.exact_algebra.specs.Complex.{Complex, square_size}
@@ -11,12 +11,11 @@ use Rattle.network_theory.specs.Order.{Order, IsOrder}
 use Rattle.network_theory.specs.Box.{LiesIn}
 use Rattle.network_theory.specs.Network.{Network}
 use Rattle.network_theory.specs.Threshold.{Threshold, flat, per_unit, IsWithin, IsAbove}
-use Rattle.network_theory.specs.Scanned.{micro, IsClearedAt, IsPeakAt, IsPeak}
+use Rattle.network_theory.specs.Scanned.{micro, IsClearedAt, IsPeak}
 use Rattle.band_subdivision.specs.Boxes.{IsTestable}
 use Rattle.band_subdivision.specs.Levels.{Levels, AreScanLevels, AreLevelsOf, orders, in_ohms_of}
 use Rattle.band_subdivision.specs.Truth.{millionths}
 use Rattle.band_subdivision.proofs.LevelValues.{threshold_at, volts_apart, above_zero}
-use Rattle.band_subdivision.proofs.Comparisons.{one}
 
 pub at_most_along : (x y z : Ratio) → z ≈ y → x ≼ y → x ≼ z
 at_most_along x y z e h =

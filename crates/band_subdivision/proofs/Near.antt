@@ -1,6 +1,6 @@
 -- Sizes of complex numbers that are near one another, by parts: a and b are those of the one, x and y those of the other, and d1 and d2 their differences.
-use Rattle.std.proofs.Common.{pos, inl, inr, [], ◌∷◌}
-use Rattle.exact_algebra.specs.Ratio.{Ratio, ◌≈◌, plus, times, opposite, difference, magnitude, whole}
+use Rattle.std.proofs.Common.{inl, inr, [], ◌∷◌}
+use Rattle.exact_algebra.specs.Ratio.{Ratio, ◌≈◌, plus, times, opposite, difference, magnitude}
 use Rattle.exact_algebra.proofs.Reader.{reads, ring, linear, weigh, join, none_left}
 use Rattle.exact_algebra.proofs.Ratios.{ratio_ring}
 use Rattle.exact_algebra.proofs.Order.{NotNegative, ratio_order, magnitude_is, magnitude_not_negative}
@@ -40,26 +40,26 @@ module _ (B q d : Ratio) (h : IsOver B q) where
   crossed =
       elim (magnitude_is q) [
         | inl eq ↦ elim (magnitude_is d) [
-            | inl ed ↦ ratio_order.along (linear ratio_ring (B ∷ q ∷ d ∷ Q ∷ D ∷ []) (join ratio_ring (weigh ratio_ring D eq) (weigh ratio_ring q ed)) (search reads depth 60 fits 20000) none_left) more
-            | inr ed ↦ ratio_order.along (linear ratio_ring (B ∷ q ∷ d ∷ Q ∷ D ∷ []) (join ratio_ring (weigh ratio_ring (opposite D) eq) (weigh ratio_ring (opposite q) ed)) (search reads depth 60 fits 20000) none_left) kept
-          ]
+          | inl ed ↦ ratio_order.along (linear ratio_ring (B ∷ q ∷ d ∷ Q ∷ D ∷ []) (join ratio_ring (weigh ratio_ring D eq) (weigh ratio_ring q ed)) (search reads depth 60 fits 20000) none_left) more
+          | inr ed ↦ ratio_order.along (linear ratio_ring (B ∷ q ∷ d ∷ Q ∷ D ∷ []) (join ratio_ring (weigh ratio_ring (opposite D) eq) (weigh ratio_ring (opposite q) ed)) (search reads depth 60 fits 20000) none_left) kept
+        ]
         | inr eq ↦ elim (magnitude_is d) [
-            | inl ed ↦ ratio_order.along (linear ratio_ring (B ∷ q ∷ d ∷ Q ∷ D ∷ []) (join ratio_ring (weigh ratio_ring (opposite D) eq) (weigh ratio_ring q ed)) (search reads depth 60 fits 20000) none_left) kept
-            | inr ed ↦ ratio_order.along (linear ratio_ring (B ∷ q ∷ d ∷ Q ∷ D ∷ []) (join ratio_ring (weigh ratio_ring D eq) (weigh ratio_ring (opposite q) ed)) (search reads depth 60 fits 20000) none_left) more
-          ]
+          | inl ed ↦ ratio_order.along (linear ratio_ring (B ∷ q ∷ d ∷ Q ∷ D ∷ []) (join ratio_ring (weigh ratio_ring (opposite D) eq) (weigh ratio_ring q ed)) (search reads depth 60 fits 20000) none_left) kept
+          | inr ed ↦ ratio_order.along (linear ratio_ring (B ∷ q ∷ d ∷ Q ∷ D ∷ []) (join ratio_ring (weigh ratio_ring D eq) (weigh ratio_ring (opposite q) ed)) (search reads depth 60 fits 20000) none_left) more
+        ]
       ]
 
   crossed_less : NotNegative (plus (times B D) (opposite (times q d)))
   crossed_less =
       elim (magnitude_is q) [
         | inl eq ↦ elim (magnitude_is d) [
-            | inl ed ↦ ratio_order.along (linear ratio_ring (B ∷ q ∷ d ∷ Q ∷ D ∷ []) (join ratio_ring (weigh ratio_ring (opposite D) eq) (weigh ratio_ring (opposite q) ed)) (search reads depth 60 fits 20000) none_left) kept
-            | inr ed ↦ ratio_order.along (linear ratio_ring (B ∷ q ∷ d ∷ Q ∷ D ∷ []) (join ratio_ring (weigh ratio_ring D eq) (weigh ratio_ring q ed)) (search reads depth 60 fits 20000) none_left) more
-          ]
+          | inl ed ↦ ratio_order.along (linear ratio_ring (B ∷ q ∷ d ∷ Q ∷ D ∷ []) (join ratio_ring (weigh ratio_ring (opposite D) eq) (weigh ratio_ring (opposite q) ed)) (search reads depth 60 fits 20000) none_left) kept
+          | inr ed ↦ ratio_order.along (linear ratio_ring (B ∷ q ∷ d ∷ Q ∷ D ∷ []) (join ratio_ring (weigh ratio_ring D eq) (weigh ratio_ring q ed)) (search reads depth 60 fits 20000) none_left) more
+        ]
         | inr eq ↦ elim (magnitude_is d) [
-            | inl ed ↦ ratio_order.along (linear ratio_ring (B ∷ q ∷ d ∷ Q ∷ D ∷ []) (join ratio_ring (weigh ratio_ring D eq) (weigh ratio_ring (opposite q) ed)) (search reads depth 60 fits 20000) none_left) more
-            | inr ed ↦ ratio_order.along (linear ratio_ring (B ∷ q ∷ d ∷ Q ∷ D ∷ []) (join ratio_ring (weigh ratio_ring (opposite D) eq) (weigh ratio_ring q ed)) (search reads depth 60 fits 20000) none_left) kept
-          ]
+          | inl ed ↦ ratio_order.along (linear ratio_ring (B ∷ q ∷ d ∷ Q ∷ D ∷ []) (join ratio_ring (weigh ratio_ring D eq) (weigh ratio_ring (opposite q) ed)) (search reads depth 60 fits 20000) none_left) more
+          | inr ed ↦ ratio_order.along (linear ratio_ring (B ∷ q ∷ d ∷ Q ∷ D ∷ []) (join ratio_ring (weigh ratio_ring (opposite D) eq) (weigh ratio_ring q ed)) (search reads depth 60 fits 20000) none_left) kept
+        ]
       ]
 
 -- the differences are at most E in the sum of their sizes
@@ -105,21 +105,21 @@ module _ (E x y a b d1 d2 : Ratio) (e1 : d1 ≈ difference x a) (e2 : d2 ≈ dif
             (linear ratio_ring (M ∷ x ∷ y ∷ X ∷ []) (weigh ratio_ring one (magnitude-square x)) (search reads depth 60 fits 20000) none_left)
             (ratio_order.sum (ratio_order.product far (ratio_order.sum (magnitude_not_negative x) natural)) (square_not_negative y))
         | inl over_x ↦ elim (ratio_order.either (plus M (opposite Y))) [
-            | inr far ↦
-                ratio_order.along
-                (linear ratio_ring (M ∷ x ∷ y ∷ Y ∷ []) (weigh ratio_ring one (magnitude-square y)) (search reads depth 60 fits 20000) none_left)
-                (ratio_order.sum (ratio_order.product far (ratio_order.sum (magnitude_not_negative y) natural)) (square_not_negative x))
-            | inl over_y ↦
-                let parts = ratio_order.sum (twice (crossed M x d1 over_x)) (twice (crossed M y d2 over_y)) in
-                let whole_sum = ratio_order.sum square (ratio_order.sum parts (ratio_order.sum (twice (ratio_order.product natural small)) squares)) in
-                ratio_order.along
-                (linear ratio_ring (M ∷ E ∷ x ∷ y ∷ a ∷ b ∷ d1 ∷ d2 ∷ m1 ∷ m2 ∷ [])
-                (join ratio_ring (weigh ratio_ring (plus (plus a x) (opposite d1)) e1)
-                (join ratio_ring (weigh ratio_ring (plus (plus b y) (opposite d2)) e2)
-                (join ratio_ring (weigh ratio_ring (opposite one) (magnitude-square d1)) (weigh ratio_ring (opposite one) (magnitude-square d2)))))
-                (search reads depth 80 fits 40000) none_left)
-                whole_sum
-          ]
+          | inr far ↦
+              ratio_order.along
+              (linear ratio_ring (M ∷ x ∷ y ∷ Y ∷ []) (weigh ratio_ring one (magnitude-square y)) (search reads depth 60 fits 20000) none_left)
+              (ratio_order.sum (ratio_order.product far (ratio_order.sum (magnitude_not_negative y) natural)) (square_not_negative x))
+          | inl over_y ↦
+              let parts = ratio_order.sum (twice (crossed M x d1 over_x)) (twice (crossed M y d2 over_y)) in
+              let whole_sum = ratio_order.sum square (ratio_order.sum parts (ratio_order.sum (twice (ratio_order.product natural small)) squares)) in
+              ratio_order.along
+              (linear ratio_ring (M ∷ E ∷ x ∷ y ∷ a ∷ b ∷ d1 ∷ d2 ∷ m1 ∷ m2 ∷ [])
+              (join ratio_ring (weigh ratio_ring (plus (plus a x) (opposite d1)) e1)
+              (join ratio_ring (weigh ratio_ring (plus (plus b y) (opposite d2)) e2)
+              (join ratio_ring (weigh ratio_ring (opposite one) (magnitude-square d1)) (weigh ratio_ring (opposite one) (magnitude-square d2)))))
+              (search reads depth 80 fits 40000) none_left)
+              whole_sum
+        ]
       ]
 
 -- ---- against a threshold T

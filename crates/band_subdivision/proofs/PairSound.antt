@@ -1,7 +1,4 @@
 -- The test of a pair of networks is sound.
-use Rattle.band_subdivision.specs.InverseTest.{inverse_test}
-use Rattle.band_subdivision.specs.IntervalTest.{elimination_test}
-use Rattle.band_subdivision.specs.Parts.{where_near}
 use Rattle.band_subdivision.specs.PairTest.{pair_value, pair_enclosure, scanned_network}
 use Rattle.band_subdivision.specs.PairTruth.{PairTestIsSound, scanned_with}
 use Rattle.band_subdivision.proofs.Enclosures.{pair_encloses}

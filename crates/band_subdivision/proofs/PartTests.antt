@@ -1,7 +1,7 @@
 -- A test that is made of sound parts is sound.
-use Rattle.std.proofs.Common.{◌≡◌, ℕ, ◌-◌, ◌≤◌, Bool, true, false, Option, Some, None, ℤ, refl, subst}
+use Rattle.std.proofs.Common.{◌≡◌, ℕ, Bool, true, false, Option, Some, None, ℤ, refl, subst}
 use Rattle.std.specs.Prelude.{◌||◌, ◌&&◌, if◌then◌else◌}
-use Rattle.band_subdivision.specs.Boxes.{BoxTest, above_at, IsTestable}
+use Rattle.band_subdivision.specs.Boxes.{BoxTest, IsTestable}
 use Rattle.band_subdivision.specs.Parts.{or_else, either, is_near, where_near}
 use Rattle.band_subdivision.specs.Truth.{Scanned, IsClearedBox, IsTruePeak, IsSound, PartsAreSound}
 

@@ -1,6 +1,6 @@
 -- Scans that begin, and what is true of their boxes.
 use Rattle.std.proofs.lemmas.Int.{ints}
-use Rattle.std.proofs.Common.{◌≡◌, Bool, ◌∙◌, ℕ, ◌≤◌, ◌<◌, ◌-◌, ◌+◌, ◌*◌, List, [], ◌∷◌, ℤ, pos, ◌≤ℤ◌, true, length, map, Option, Some, None, refl, sym, arith, append-nil}
+use Rattle.std.proofs.Common.{◌≡◌, Bool, ◌∙◌, ℕ, ◌≤◌, ◌<◌, ◌-◌, ◌+◌, ◌*◌, List, [], ◌∷◌, ℤ, pos, ◌≤ℤ◌, true, length, map, Option, Some, None, sym, arith, append-nil}
 use Rattle.std.specs.Prelude.{IfSome}
 use Rattle.network_theory.specs.Box.{Covers}
 use Rattle.network_theory.specs.Network.{Network}

@@ -2,9 +2,9 @@
 use Rattle.std.proofs.Common.{◌≡◌, ℕ, ◌*◌, ◌^◌, ◌≤◌, ◌<◌, ℤ, pos, negsuc, ◌≤ℤ◌, ◌*ℤ◌, unsigned_abs, Bool, true, false, Option, Some, None, refl, sym, subst, arith, [], ◌∷◌}
 use Rattle.std.specs.Prelude.{nat_le, nat_lt, ◌&&◌, if◌then◌else◌}
 use Rattle.std.proofs.lemmas.Bool.Decides.{nat_tests}
-use Rattle.std.proofs.lemmas.Int.{ints, by_lt_z}
+use Rattle.std.proofs.lemmas.Int.{ints}
 use Rattle.std.proofs.lemmas.Nat.{pow_pos}
-use Rattle.exact_algebra.specs.Ratio.{Ratio, den, ◌≈◌, ◌≼◌, ◌≺◌, times, opposite, whole, reciprocal}
+use Rattle.exact_algebra.specs.Ratio.{◌≈◌, ◌≼◌, times, opposite, whole, reciprocal}
 use Rattle.exact_algebra.specs.Complex.{Complex, complex_numbers, square_size}
 use Rattle.exact_algebra.specs.Floor.{floor_div}
 use Rattle.exact_algebra.proofs.Reader.{reads, linear, weigh, none_left}

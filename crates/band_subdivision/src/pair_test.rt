@@ -121,7 +121,14 @@ impl<E: Enclosure> PairTest<E> {
                     return true;
                 }
                 let near = hi - lo <= self.spec.locate;
-                let z = impedance(&mut self.inverse, near, &mut self.matrix, susceptance, lo, hi);
+                let z = impedance(
+                    &mut self.inverse,
+                    near,
+                    &mut self.matrix,
+                    susceptance,
+                    lo,
+                    hi,
+                );
                 is_within(E::SCALE, &levels, z)
             }
         }
@@ -144,7 +151,14 @@ impl<E: Enclosure> PairTest<E> {
                     return ohms;
                 }
                 let near = hi - lo <= self.spec.locate;
-                let z = impedance(&mut self.inverse, near, &mut self.matrix, susceptance, lo, hi);
+                let z = impedance(
+                    &mut self.inverse,
+                    near,
+                    &mut self.matrix,
+                    susceptance,
+                    lo,
+                    hi,
+                );
                 ohms_over(E::SCALE, &levels, z)
             }
         }

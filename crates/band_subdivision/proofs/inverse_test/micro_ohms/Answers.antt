@@ -1,6 +1,5 @@
-use Rattle.std.proofs.Common.{◌≡◌, ◌≤◌, ◌∙◌, ap, pos, arith}
+use Rattle.std.proofs.Common.{◌∙◌, ap, pos}
 use Rattle.band_subdivision.specs.Levels.{levels_in}
-use Rattle.band_subdivision.specs.InverseTest.{micro_ohms_from}
 use Rattle.band_subdivision.proofs.TestSteps.{below_some, from_size, micro_ohms_from_is, passed}
 use Rattle.band_subdivision.proofs.inverse_test.micro_ohms.Goals as goal
 

@@ -1,4 +1,4 @@
-use Rattle.std.proofs.Common.{◌≡◌, ◌-◌, ◌∙◌, ap, sym, subst, arith, length, rules}
+use Rattle.std.proofs.Common.{◌≡◌, ◌-◌, ◌∙◌, ap, sym, subst, arith, length}
 use Rattle.std.specs.Option.{option_map}
 use Rattle.certified_inverse.specs.Certificate.{enclosure}
 use Rattle.certified_inverse.specs.Sizes.{IsInRange}

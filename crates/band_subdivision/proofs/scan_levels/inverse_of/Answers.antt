@@ -1,4 +1,4 @@
-use Rattle.std.proofs.Common.{◌≡◌, ◌∙◌, ap, pos, arith}
+use Rattle.std.proofs.Common.{◌∙◌, ap, pos, arith}
 use Rattle.band_subdivision.proofs.TestSteps.{inverse_is, passed}
 use Rattle.band_subdivision.proofs.scan_levels.inverse_of.Goals as goal
 

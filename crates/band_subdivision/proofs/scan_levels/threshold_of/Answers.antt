@@ -1,4 +1,4 @@
-use Rattle.std.proofs.Common.{◌≡◌, ◌∙◌, ap, pos, arith}
+use Rattle.std.proofs.Common.{◌∙◌, ap, pos, arith}
 use Rattle.band_subdivision.proofs.TestSteps.{unit_is, passed}
 use Rattle.band_subdivision.proofs.scan_levels.threshold_of.Goals as goal
 

@@ -1,9 +1,8 @@
-use Rattle.std.proofs.Common.{◌≡◌, ◌∙◌, ap, ap₂, refl}
+use Rattle.std.proofs.Common.{◌∙◌, ap, refl}
 use Rattle.std.specs.Option.{option_map}
 use Rattle.std.specs.Result.{result_ok}
 use Rattle.complex_interval.specs.Rect.{rectangle_of}
 use Rattle.exact_fraction.specs.Fraction.{ratio_of}
-use Rattle.band_subdivision.specs.IntervalTest.{clear_bound, above_bound}
 use Rattle.band_subdivision.specs.Levels.{levels_in}
 use Rattle.band_subdivision.specs.ScanSpec.{asked_of}
 use Rattle.band_subdivision.proofs.Benches.{suits}

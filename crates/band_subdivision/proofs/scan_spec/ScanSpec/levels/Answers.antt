@@ -1,4 +1,4 @@
-use Rattle.std.proofs.Common.{◌≡◌, ap, arith}
+use Rattle.std.proofs.Common.{ap, arith}
 use Rattle.std.proofs.lemmas.Int.{ints}
 use Rattle.band_subdivision.proofs.Curves.{begins_by}
 use Rattle.band_subdivision.proofs.scan_spec.ScanSpec.levels.Goals as goal
