@@ -77,7 +77,10 @@ fn an_industrial_plant(rt: HostRuntime) -> Result<(), Fail> {
     assert_long_report(&rt, rt.alloc(), &study, ends, 4)?;
     let header = networks::INDUSTRIAL_BOTH_HEADER;
     let study = joined(rt.alloc(), &[header, networks::INDUSTRIAL])?;
-    let ends = (networks::INDUSTRIAL_BOTH_FRONT, networks::INDUSTRIAL_BOTH_END);
+    let ends = (
+        networks::INDUSTRIAL_BOTH_FRONT,
+        networks::INDUSTRIAL_BOTH_END,
+    );
     assert_long_report(&rt, rt.alloc(), &study, ends, 0)?;
     Ok(())
 }
