@@ -22,21 +22,13 @@ pub asked_is : (both : Bool) (ordering : List ℕ) (bench : Option ℕ) → benc
 asked_is true ordering bench e = ap is_some e
 asked_is false ordering bench e = ap is_some e
 
-pub nothing_within : (bound : Option ℤ) → is_within_by bound OutOfRange ≡ false
-nothing_within (Some b) = refl
-nothing_within None = refl
-
-pub nothing_over : (scale : ℕ) (levels : Levels) (bound : Option ℤ) → ohms_over_by scale levels bound OutOfRange ≡ None
-nothing_over scale levels (Some b) = refl
-nothing_over scale levels None = refl
-
 pub within_asked : (asked : Bool) (bound : Option ℤ) (outcome : InverseOutcome) → is_within_by bound (if asked then outcome else OutOfRange) ≡ (asked && is_within_by bound outcome)
 within_asked true bound outcome = refl
-within_asked false bound outcome = nothing_within bound
+within_asked false bound outcome = refl
 
 pub over_asked : (asked : Bool) (scale : ℕ) (levels : Levels) (bound : Option ℤ) (outcome : InverseOutcome) → ohms_over_by scale levels bound (if asked then outcome else OutOfRange) ≡ (if asked then ohms_over_by scale levels bound outcome else None)
 over_asked true scale levels bound outcome = refl
-over_asked false scale levels bound outcome = nothing_over scale levels bound
+over_asked false scale levels bound outcome = refl
 
 -- ---- the enclosure by a matrix whose last entry was changed
 length-set_entry : (rows : List (List Rectangle)) (i j : ℕ) (x : Rectangle) → length (set_entry rows i j x) ≡ length rows
@@ -109,28 +101,20 @@ module _ (s : ℕ) (asked : Asked) (low high : Network) (ordering : List ℕ) (e
       ∙ neither (clear_bound s levels) (most_within s levels) (is_near asked.both asked.locate lo hi))
     where
       neither : (b c : Option ℤ) (t : Bool) → (is_clear_by b None || (t && is_within_by c OutOfRange)) ≡ false
-      neither (Some b) (Some c) true = refl
-      neither (Some b) (Some c) false = refl
-      neither (Some b) None true = refl
-      neither (Some b) None false = refl
-      neither None (Some c) true = refl
-      neither None (Some c) false = refl
-      neither None None true = refl
-      neither None None false = refl
+      neither (Some b) c true = refl
+      neither (Some b) c false = refl
+      neither None c true = refl
+      neither None c false = refl
 
   pub unfilled_above : pair_rows s low high ordering lo hi ≡ None → None ≡ (pair_test s asked low high ordering e).above lo hi
   unfilled_above none = sym (above_is ∙ ap₂ (λ v z. or_else (ohms_above_by s levels (above_bound s levels) v) (if is_near asked.both asked.locate lo hi then ohms_over_by s levels (least_above s levels) z else None)) (no_value none) (no_enclosure none)
       ∙ neither (above_bound s levels) (least_above s levels) (is_near asked.both asked.locate lo hi))
     where
       neither : (b c : Option ℤ) (t : Bool) → or_else (ohms_above_by s levels b None) (if t then ohms_over_by s levels c OutOfRange else None) ≡ None
-      neither (Some b) (Some c) true = refl
-      neither (Some b) (Some c) false = refl
-      neither (Some b) None true = refl
-      neither (Some b) None false = refl
-      neither None (Some c) true = refl
-      neither None (Some c) false = refl
-      neither None None true = refl
-      neither None None false = refl
+      neither (Some b) c true = refl
+      neither (Some b) c false = refl
+      neither None c true = refl
+      neither None c false = refl
 
   -- where it is filled, with these levels and the interval of the extra susceptance
   module _ (rows : List (List Rectangle)) (kept : Levels) (susceptance : Option Ends) (y : Option Rectangle) (filled : pair_rows s low high ordering lo hi ≡ Some rows) (el : kept ≡ levels) (es : susceptance ≡ range_ends s e e)

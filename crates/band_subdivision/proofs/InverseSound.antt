@@ -61,13 +61,10 @@ pub record IsWithinBy (bound : Option ℤ) (outcome : InverseOutcome) : Type 0 w
 
 within_parts : (bound : Option ℤ) (outcome : InverseOutcome) → is_within_by bound outcome ≡ true → IsWithinBy bound outcome
 within_parts (Some b) (Enclosed re im error) h = record { number = b; re = re; im = im; error = error; is_bound = refl; is_enclosed = refl; most = int_le_true _ _ h }
-within_parts (Some b) (NoInverse n) h = absurd cc
-within_parts (Some b) (NotContracting n) h = absurd cc
-within_parts (Some b) OutOfRange h = absurd cc
 within_parts None (Enclosed re im error) h = absurd cc
-within_parts None (NoInverse n) h = absurd cc
-within_parts None (NotContracting n) h = absurd cc
-within_parts None OutOfRange h = absurd cc
+within_parts bound (NoInverse n) h = absurd cc
+within_parts bound (NotContracting n) h = absurd cc
+within_parts bound OutOfRange h = absurd cc
 
 pub record IsOverBy (scale : ℕ) (levels : Levels) (bound : Option ℤ) (outcome : InverseOutcome) (ohms : ℤ) : Type 0 where
   pub number : ℤ
@@ -87,13 +84,10 @@ pub over_parts : (scale : ℕ) (levels : Levels) (bound : Option ℤ) (outcome :
 over_parts scale levels (Some b) (Enclosed re im error) ohms h =
     let parts = when_true _ _ ohms h in
     record { number = b; re = re; im = im; error = error; is_bound = refl; is_enclosed = refl; least = lt_true _ _ parts.0; is_ohms = parts.1 }
-over_parts scale levels (Some b) (NoInverse n) ohms h = absurd cc
-over_parts scale levels (Some b) (NotContracting n) ohms h = absurd cc
-over_parts scale levels (Some b) OutOfRange ohms h = absurd cc
 over_parts scale levels None (Enclosed re im error) ohms h = absurd cc
-over_parts scale levels None (NoInverse n) ohms h = absurd cc
-over_parts scale levels None (NotContracting n) ohms h = absurd cc
-over_parts scale levels None OutOfRange ohms h = absurd cc
+over_parts scale levels bound (NoInverse n) ohms h = absurd cc
+over_parts scale levels bound (NotContracting n) ohms h = absurd cc
+over_parts scale levels bound OutOfRange ohms h = absurd cc
 
 -- ---- raw numbers
 raw_unit : (s : ℕ) → times (raw s 1) (units s) ≈ one

@@ -28,22 +28,29 @@ point_square re im = unsigned_abs re * unsigned_abs re + unsigned_abs im * unsig
 unfoldable pub root_floor_of : ℕ → ℕ
 root_floor_of n = root_ceil_of (suc n) - 1
 
+-- a size is at most the bound
+abbrev pub is_at_most : ℕ → Option ℤ → Bool
+is_at_most size (Some bound) = int_le (pos size) bound
+is_at_most size None = false
+
 -- each number within the error of the value is at most the bound in size
 abbrev pub is_within_by : Option ℤ → InverseOutcome → Bool
-is_within_by (Some bound) (Enclosed re im error) = int_le (pos (root_ceil_of (point_square re im) + error)) bound
-is_within_by (Some bound) _ = false
-is_within_by None _ = false
+is_within_by bound (Enclosed re im error) = is_at_most (root_ceil_of (point_square re im) + error) bound
+is_within_by bound _ = false
 
 -- in micro-ohms, rounded down, a size of so many units of 1 / 2^scale per unit
 unfoldable pub micro_ohms_from : ℕ → Levels → ℕ → ℕ
 micro_ohms_from scale levels size = size * (unsigned_abs levels.kv * unsigned_abs levels.kv) / (2 ^ scale * unsigned_abs levels.mva)
 
+-- of a size less an error that is more than the bound: its micro-ohms
+abbrev pub ohms_beyond : ℕ → Levels → Option ℤ → ℕ → ℕ → Option ℤ
+ohms_beyond scale levels (Some bound) size error = if nat_lt (unsigned_abs bound + error) size then Some (pos (micro_ohms_from scale levels (size - error))) else None
+ohms_beyond scale levels None size error = None
+
 -- each number within the error of the value is more than the bound in size: the micro-ohms of the least size
 abbrev pub ohms_over_by : ℕ → Levels → Option ℤ → InverseOutcome → Option ℤ
-ohms_over_by scale levels (Some bound) (Enclosed re im error) =
-    if nat_lt (unsigned_abs bound + error) (root_floor_of (point_square re im)) then Some (pos (micro_ohms_from scale levels (root_floor_of (point_square re im) - error))) else None
-ohms_over_by scale levels (Some bound) _ = None
-ohms_over_by scale levels None _ = None
+ohms_over_by scale levels bound (Enclosed re im error) = ohms_beyond scale levels bound (root_floor_of (point_square re im)) error
+ohms_over_by scale levels bound _ = None
 
 -- the test of boxes by their levels and enclosed impedances
 unfoldable pub inverse_test : ℕ → (ℕ → ℕ → Levels) → (ℕ → ℕ → InverseOutcome) → BoxTest

@@ -36,14 +36,12 @@ pub fn is_within(scale: u32, levels: &ScanLevels, outcome: InverseOutcome) -> bo
     requires sizes { IsInRange outcome }
     ensures { result ≡ is_within_by (most_within scale (levels_in levels.now)) outcome }
 {
-    match bound_within(scale, levels) {
-        Some(bound) => match outcome {
-            InverseOutcome::Enclosed { re, im, error } => {
-                is_at_most(root_above(square_of(re, im)) as u128 + error as u128, bound)
-            }
-            _ => false,
+    match outcome {
+        InverseOutcome::Enclosed { re, im, error } => match bound_within(scale, levels) {
+            Some(bound) => is_at_most(root_above(square_of(re, im)) as u128 + error as u128, bound),
+            None => false,
         },
-        None => false,
+        _ => false,
     }
 }
 
@@ -54,9 +52,9 @@ pub fn ohms_over(scale: u32, levels: &ScanLevels, outcome: InverseOutcome) -> Op
     requires sizes { IsInRange outcome }
     ensures { result ≡ ohms_over_by scale (levels_in levels.now) (least_above scale (levels_in levels.now)) outcome }
 {
-    match bound_above(scale, levels) {
-        Some(bound) => match outcome {
-            InverseOutcome::Enclosed { re, im, error } => {
+    match outcome {
+        InverseOutcome::Enclosed { re, im, error } => match bound_above(scale, levels) {
+            Some(bound) => {
                 let size = root_below(square_of(re, im));
                 if bound.unsigned_abs() as u128 + (error as u128) < size as u128 {
                     Some(micro_ohms(scale, levels, size - error))
@@ -64,9 +62,9 @@ pub fn ohms_over(scale: u32, levels: &ScanLevels, outcome: InverseOutcome) -> Op
                     None
                 }
             }
-            _ => None,
+            None => None,
         },
-        None => None,
+        _ => None,
     }
 }
 

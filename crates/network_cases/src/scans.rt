@@ -7,7 +7,7 @@ ghost use Rattle.study_model.specs.Curve.{curve_points, IsLawfulCurve, Spans};
 ghost use Rattle.band_subdivision.specs.ScanSpec.{IsScanSpec};
 
 use crate::fixtures::{
-    FOUR_HUNDREDTHS, TENTH, ZERO, coil, expect, live_node, network_of, two_buses,
+    FOUR_HUNDREDTHS, ONE, TENTH, ZERO, bank, coil, expect, live_node, network_of, tie, two_buses,
 };
 use band_subdivision::{Scan, ScanSpec, Tested};
 use complex_interval::{Enclosure, Span};
@@ -104,10 +104,11 @@ fn scan_of<E: Enclosure>(
     Ok(Scan::new(alloc, network, node, spec)?)
 }
 
-// The scan between a network and itself, at node 0.
+// The scan between a network and itself, at a live node.
 fn scan_between<E: Enclosure>(
     alloc: Global,
     network: &Network,
+    number: u32,
     spec: &ScanSpec,
 ) -> Result<Scan<E>, Fail>
     requires whole { IsWholeNetwork network.now }
@@ -115,7 +116,7 @@ fn scan_between<E: Enclosure>(
     requires spec { IsScanSpec spec.now }
     ensures { IfOk result (λ s. s.spec ≡ spec.now) }
 {
-    let node = live_node(alloc, network, 0)?;
+    let node = live_node(alloc, network, number)?;
     Ok(Scan::between(alloc, network, network, node, *spec)?)
 }
 
@@ -196,7 +197,7 @@ fn a_coil_is_above_at_both_middles(rt: HostRuntime) -> Result<(), Fail> {
     expect_scan::<Span<40>>(&rt, rt.alloc(), &network, 0, COIL, rows.as_slice())?;
     expect_scan::<Span<48>>(&rt, rt.alloc(), &network, 0, COIL, rows.as_slice())?;
     let spec = spec_of(COIL)?;
-    let mut scan: Scan<Span<40>> = scan_between(rt.alloc(), &network, &spec)?;
+    let mut scan: Scan<Span<40>> = scan_between(rt.alloc(), &network, 0, &spec)?;
     expect_boxes(&rt, &mut scan, rows.as_slice());
     Ok(())
 }
@@ -353,17 +354,21 @@ const fn above(micro_ohms: i128) -> Tested {
     }
 }
 
-// What a scan between a coil and itself says of an order, where a coil has so many ohms, with an extra susceptance.
+// What a scan between a network and itself says of an order at a live node, with an extra susceptance.
 fn tested(
     rt: &impl Abort,
     alloc: Global,
+    network: &Network,
+    number: u32,
     asked: Asked,
     extra: Option<Fraction>,
     order: u32,
-) -> Result<Tested, Fail> {
-    let network = one_bus(alloc, ZERO)?;
+) -> Result<Tested, Fail>
+    requires whole { IsWholeNetwork network.now }
+    requires no_group { HasNoGroup (exact_network network.now) }
+{
     let spec = spec_of(asked)?;
-    let mut scan = scan_between(alloc, &network, &spec)?;
+    let mut scan = scan_between(alloc, network, number, &spec)?;
     restart(rt, &mut scan, extra);
     if spec.from <= order && order <= spec.to {
         Ok(scan.test(order, order))
@@ -386,6 +391,7 @@ const fn near(threshold: u64) -> Asked {
 // A bank of 1/16 leaves nothing of the coil's admittance, so no impedance exists.
 #[test]
 fn single_orders(rt: HostRuntime) -> Result<(), Fail> {
+    let network = one_bus(rt.alloc(), ZERO)?;
     let sixteenth = Fraction { num: 1, den: 16 };
     for (label, asked, extra, order, wanted) in [
         ("a middle", COIL, None, 3_250_000, above(3_249_999)),
@@ -416,11 +422,40 @@ fn single_orders(rt: HostRuntime) -> Result<(), Fail> {
             let asked = Asked { both, ..asked };
             expect(
                 &rt,
-                tested(&rt, rt.alloc(), asked, extra, order)?,
+                tested(&rt, rt.alloc(), &network, 0, asked, extra, order)?,
                 wanted,
                 label,
             );
         }
+    }
+    Ok(())
+}
+
+// A coil from node 1 to a third node: at the order 5 there are 5 ohms there, since node 1 has none, and 10 with a bank of 1/50. An
+// enclosure is less than a micro-ohm off.
+#[test]
+fn the_inverse_names_a_peak_where_a_pivot_holds_zero(rt: HostRuntime) -> Result<(), Fail> {
+    let parts = [
+        coil(1, ZERO),
+        tie(0, ONE, 1),
+        bank(0, FOUR_HUNDREDTHS),
+        tie(2, ONE, 1),
+    ];
+    let network = network_of(rt.alloc(), 3, parts.as_slice())?;
+    let fiftieth = Fraction { num: 1, den: 50 };
+    for (label, both, ohms, extra, wanted) in [
+        ("elimination alone", false, 4_000_000, None, NEITHER),
+        ("above", true, 4_000_000, None, above(4_999_999)),
+        ("within", true, 6_000_000, None, CLEAR),
+        ("with a bank", true, 6_000_000, Some(fiftieth), above(9_999_999)),
+        ("within with a bank", true, 11_000_000, Some(fiftieth), CLEAR),
+    ] {
+        let asked = Asked {
+            ohms: [ohms, ohms],
+            ..about_five(both)
+        };
+        let found = tested(&rt, rt.alloc(), &network, 2, asked, extra, 5_000_000)?;
+        expect(&rt, found, wanted, label);
     }
     Ok(())
 }
