@@ -5,3 +5,4 @@ pub mod Middles
 pub mod Counts
 pub mod Main
 pub mod Worked
+pub mod Answers

@@ -3,4 +3,5 @@ pub mod Sizes
 pub mod Reach
 pub mod Enclosed
 pub mod Holds
+pub mod Answers
 pub mod Worked

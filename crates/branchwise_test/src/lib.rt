@@ -2,6 +2,7 @@
 #![tactic(auto)]
 
 ghost use Rattle.std.specs.Prelude.{ℕ};
+ghost use Rattle.branchwise_test.specs.Answers.{AnswersAreTrue};
 ghost use Rattle.branchwise_test.specs.Holds.{ImpedanceIsNear};
 ghost use Rattle.branchwise_test.specs.Worked.{WorkedEstimates};
 
@@ -13,6 +14,11 @@ pub use fault::BranchwiseFault;
 /// impedance exists, is the only one, and lies within the error of a number that the estimate holds.
 pub fn impedance_is_near()
     ensures law { (s : ℕ) → ImpedanceIsNear s }
+{}
+
+/// Clear and above, by an estimate and its error: where the test answers, the impedance is within the threshold, or above it.
+pub fn answers_are_true()
+    ensures law { (s : ℕ) → AnswersAreTrue s }
 {}
 
 /// Estimates of small networks, worked by hand.

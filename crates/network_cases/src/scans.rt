@@ -447,8 +447,20 @@ fn the_inverse_names_a_peak_where_a_pivot_holds_zero(rt: HostRuntime) -> Result<
         ("elimination alone", false, 4_000_000, None, NEITHER),
         ("above", true, 4_000_000, None, above(4_999_999)),
         ("within", true, 6_000_000, None, CLEAR),
-        ("with a bank", true, 6_000_000, Some(fiftieth), above(9_999_999)),
-        ("within with a bank", true, 11_000_000, Some(fiftieth), CLEAR),
+        (
+            "with a bank",
+            true,
+            6_000_000,
+            Some(fiftieth),
+            above(9_999_999),
+        ),
+        (
+            "within with a bank",
+            true,
+            11_000_000,
+            Some(fiftieth),
+            CLEAR,
+        ),
     ] {
         let asked = Asked {
             ohms: [ohms, ohms],
