@@ -54,7 +54,7 @@ use Rattle.branchwise_test.specs.declared.fault.BranchwiseFault.TheVariants.{Not
 use Rattle.branchwise_test.specs.Drops.{DropEnds, node_drops, with_middles}
 use Rattle.branchwise_test.specs.Sizes.{Bounds, drop_over, all_voltages, kept_size, left_row, left_sizes, drop_sizes, bounds_of}
 use Rattle.branchwise_test.specs.Reach.{Contraction}
-use Rattle.branchwise_test.specs.Enclosed.{valued, Near, correction, near_by, near_with, by_inverse, near_of_drops, near_of, impedance_near}
+use Rattle.branchwise_test.specs.Enclosed.{valued, Near, Found, contracting, correction, near_by, near_with, by_inverse, near_of_drops, near_of, impedance_near}
 use Rattle.branchwise_test.specs.Holds.{IsNear, ImpedanceIsNear}
 use Rattle.branchwise_test.proofs.Zips.{same_length, each_holds, zip_at, each_at, zip_got, each_below, get_or-map}
 use Rattle.branchwise_test.proofs.Rows.{HoldsRow, matrix_number, matrix_held, drop_over_holds, left_widths}
@@ -269,13 +269,16 @@ module _ (s : ℕ) (ordering : List ℕ) (network : Network) (listed : ListsLive
   with_holds : (parts : List Part) (drops : List DropEnds) (links : List Link) (ps cs : List (List Rectangle)) (near : Near) → IsLinked network h parts ordering links → NodesFirst ordering links → HoldDrops s ordering network listed drops links
       → with_middles s drops (nought_rows (length ordering)) ≡ Some ps → AreRectangles (length ps) cs → near_with s k drops ps cs ≡ Ok near → IsNear s network h driven near
   with_holds parts drops links0 ps cs near linked0 first0 held0 ep shape e =
-      let (vs, e1, n1) = valued-ok _ _ near e in
-      let (b, e2, n2) = valued-ok _ _ near n1 in
-      let (column, e3, n3) = valued-ok _ _ near n2 in
-      let (xs, e4, n4) = valued-ok _ _ near n3 in
-      let (sizes, e5, n5) = valued-ok _ _ near n4 in
-      let (c, e6, n6) = valued-ok _ _ near n5 in
-      let (below, n7) = unless_wide s c.theta (NotContracting c.theta) (valued (near_by s k drops vs column xs c) (λ near. Ok near)) near n6 in
+      let (f, e0, n0) = valued-ok _ _ near e in
+      let (vs, e1, n1) = bind-some _ _ f e0 in
+      let (b, e2, n2) = bind-some _ _ f n1 in
+      let (column, e3, n3) = bind-some _ _ f n2 in
+      let (xs, e4, n4) = bind-some _ _ f n3 in
+      let (sizes, e5, n5) = bind-some _ _ f n4 in
+      let (c, e6, n6) = bind-some _ _ f n5 in
+      let is : record { voltages = vs; column = column; drops = xs; contraction = c } ≡ f = some_same _ _ n6 in
+      let stated : contracting s k drops vs column xs c ≡ Ok near = subst (λ (o : Found). contracting s k drops o.voltages o.column o.drops o.contraction ≡ Ok near) (sym is) n0 in
+      let (below, n7) = unless_wide s c.theta (NotContracting c.theta) (valued (near_by s k drops vs column xs c) (λ near. Ok near)) near stated in
       let (found, e7, n8) = valued-ok _ _ near n7 in
       subst (IsNear s network h driven) (ok_same _ _ n8) (by_steps vs b column xs sizes c found e1 e2 e3 e4 e5 (contracts s k b drops sizes c e6) below e7)
     where

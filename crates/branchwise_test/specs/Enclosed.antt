@@ -72,16 +72,27 @@ near_by s k drops vs column xs c = do
 abbrev pub contracting : ℕ → ℕ → List DropEnds → List (List Rectangle) → List Rectangle → List Rectangle → Contraction → Result Near BranchwiseFault
 contracting s k drops vs column xs c = if nat_le (2 ^ s) c.theta then Err (NotContracting c.theta) else valued (near_by s k drops vs column xs c) (λ near. Ok near)
 
--- by a matrix C in the place of the inverse of the rows P, for the node at place k
+-- what a matrix C makes of the drops: all voltages, those at the driven node's column, the drops at these, and what their sizes come to
+pub record Found : Type 0 where
+  pub voltages : List (List Rectangle)
+  pub column : List Rectangle
+  pub drops : List Rectangle
+  pub contraction : Contraction
+
+-- in the place of the inverse of the rows P, for the node at place k
+abbrev pub found : ℕ → ℕ → List DropEnds → List (List Rectangle) → List (List Rectangle) → Option Found
+found s k drops ps cs = do
+  vs ← all_voltages s cs drops
+  b ← bounds_of s drops ps cs vs
+  column ← slice_get vs k
+  xs ← each (λ d. drop_over s d.taps column) drops
+  sizes ← each kept_size xs
+  c ← contraction s k b drops sizes
+  Some (record { voltages = vs; column = column; drops = xs; contraction = c })
+
+-- the estimate by it
 abbrev pub near_with : ℕ → ℕ → List DropEnds → List (List Rectangle) → List (List Rectangle) → Result Near BranchwiseFault
-near_with s k drops ps cs =
-    valued (all_voltages s cs drops) (λ vs.
-    valued (bounds_of s drops ps cs vs) (λ b.
-    valued (slice_get vs k) (λ column.
-    valued (each (λ d. drop_over s d.taps column) drops) (λ xs.
-    valued (each kept_size xs) (λ sizes.
-    valued (contraction s k b drops sizes) (λ c.
-    contracting s k drops vs column xs c))))))
+near_with s k drops ps cs = valued (found s k drops ps cs) (λ f. contracting s k drops f.voltages f.column f.drops f.contraction)
 
 -- so with the stated inverse of P's middle in the place of C, if there is one
 abbrev pub by_inverse : ℕ → ℕ → List DropEnds → List (List Rectangle) → Result (List (List Rectangle)) InverseFault → Result Near BranchwiseFault
