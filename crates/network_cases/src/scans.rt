@@ -15,10 +15,10 @@ use exact_fraction::Fraction;
 use fixed_decimal::Decimal;
 use net_branch::Network;
 use scan_report::Kind;
-use study_model::{Curve, CurvePoint};
 use std::alloc::Global;
 use std::process::Abort;
 use std::test::Fail;
+use study_model::{Curve, CurvePoint};
 
 // A bus behind a coil of this resistance.
 fn one_bus(alloc: Global, r: Fraction) -> Result<Network, Fail>
@@ -52,7 +52,10 @@ fn curve_of(from: u32, to: u32, ohms: [u64; 2]) -> Result<Curve, Fail>
     if first < 1 || first >= 1_000_000_000_000 || last < 1 || last >= 1_000_000_000_000 {
         return Err("no ohms".into());
     }
-    let first = CurvePoint { at: from, ohms: first };
+    let first = CurvePoint {
+        at: from,
+        ohms: first,
+    };
     let last = CurvePoint { at: to, ohms: last };
     Ok(Curve::of_points(&[first, last]))
 }
@@ -219,8 +222,22 @@ fn the_inverse_decides_where_a_pivot_holds_zero(rt: HostRuntime) -> Result<(), F
     let network = two_buses(rt.alloc())?;
     for (both, kind) in [(false, Kind::Undecided), (true, Kind::Cleared)] {
         let rows = [(4_990_000, 5_010_000, kind)];
-        expect_scan::<Span<40>>(&rt, rt.alloc(), &network, 1, about_five(both), rows.as_slice())?;
-        expect_scan::<Span<48>>(&rt, rt.alloc(), &network, 1, about_five(both), rows.as_slice())?;
+        expect_scan::<Span<40>>(
+            &rt,
+            rt.alloc(),
+            &network,
+            1,
+            about_five(both),
+            rows.as_slice(),
+        )?;
+        expect_scan::<Span<48>>(
+            &rt,
+            rt.alloc(),
+            &network,
+            1,
+            about_five(both),
+            rows.as_slice(),
+        )?;
     }
     Ok(())
 }
@@ -434,8 +451,20 @@ fn the_inverse_names_a_peak_where_a_pivot_holds_zero(rt: HostRuntime) -> Result<
         ("elimination alone", false, 4_000_000, None, NEITHER),
         ("above", true, 4_000_000, None, above(4_999_999)),
         ("within", true, 6_000_000, None, CLEAR),
-        ("with a bank", true, 6_000_000, Some(fiftieth), above(9_999_999)),
-        ("within with a bank", true, 11_000_000, Some(fiftieth), CLEAR),
+        (
+            "with a bank",
+            true,
+            6_000_000,
+            Some(fiftieth),
+            above(9_999_999),
+        ),
+        (
+            "within with a bank",
+            true,
+            11_000_000,
+            Some(fiftieth),
+            CLEAR,
+        ),
     ] {
         let asked = Asked {
             ohms: [ohms, ohms],
