@@ -4,7 +4,7 @@ ghost use Rattle.std.specs.List.{All};
 ghost use Rattle.std.specs.Option.{option_map};
 ghost use Rattle.complex_interval.specs.Rect.{rectangle_of};
 ghost use Rattle.plain_elimination.specs.Matrix.{Square};
-ghost use Rattle.branchwise_test.specs.Enclosed.{contracting, found};
+ghost use Rattle.branchwise_test.specs.Enclosed.{contracting, found, near_with};
 ghost use Rattle.branchwise_bench.specs.Bounds.{IsOfSize, HasRoom};
 ghost use Rattle.branchwise_bench.specs.Drops.{drop_ends};
 ghost use Rattle.branchwise_bench.specs.Near.{near_of, contraction_of, found_by};
@@ -79,4 +79,44 @@ pub fn write_found<E: Enclosure>(
     write_drops(xs, drops, voltages[driven as usize].as_slice())?;
     write_sizes(room.xs.as_mut_slice(), xs)?;
     room.contraction(sizes, drops, driven, matrix.size() as usize)
+}
+
+/// The estimate by the matrix C on the inverse's bench.
+pub fn near_with<E: Enclosure>(
+    drops: &[DropIntervals<E>],
+    matrix: &Matrix<E>,
+    inverse: &MiddleInverse<E>,
+    driven: u32,
+    voltages: &mut [Vec<Rect<E>>],
+    xs: &mut [Rect<E>],
+    unit: &mut [Rect<E>],
+    sums: &mut [Rect<E>],
+    sizes: &mut Sizes,
+    room: &mut Room,
+) -> Result<Near<E>, BranchwiseFault>
+    requires count { matrix.now.size ≤ length drops.now }
+    requires driven_in { driven < length drops.now }
+    requires same { inverse.now.size ≡ matrix.now.size }
+    requires square { length inverse.now.rows ≡ inverse.now.size }
+    requires voltages_in { length voltages.old ≡ length drops.now }
+    requires voltages_wide { All (λ r. length r.items ≡ inverse.now.size) voltages.old }
+    requires xs_in { length xs.old ≡ length drops.now }
+    requires unit_in { length unit.old ≡ matrix.now.size }
+    requires sums_in { length sums.old ≡ matrix.now.size }
+    requires sizes_in { IsOfSize matrix.now.size (length drops.now) sizes.old }
+    requires room_in { HasRoom matrix.now.size (length drops.now) room.old }
+    ensures value { result_of (near_of E.ends) result ≡ near_with E.SCALE driven (map (drop_ends E.ends) drops.now) matrix.now.rows inverse.now.rows }
+    ensures voltages_wide { All (λ r. length r.items ≡ inverse.now.size) voltages.new }
+    ensures sizes_in { IsOfSize matrix.now.size (length drops.now) sizes.new }
+    ensures room_in { HasRoom matrix.now.size (length drops.now) room.new }
+{
+    match write_found(
+        drops, matrix, inverse, driven, voltages, xs, unit, sums, sizes, room,
+    ) {
+        Some(c) => {
+            let rows = &voltages[..];
+            contracting(drops, rows, rows[driven as usize].as_slice(), xs, driven, c)
+        }
+        None => Err(BranchwiseFault::OutOfRange),
+    }
 }
