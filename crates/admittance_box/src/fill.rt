@@ -33,8 +33,8 @@ fn add_pair<E: Enclosure>(y: Rect<E>, pair: TapProduct<E>, matrix: &mut Matrix<E
     Some(())
 }
 
-// So for each pair in order.
-fn add_pairs<E: Enclosure>(
+//// Adds y times its factor to the entry of each pair of taps, in order. None where one has no value.
+pub fn add_pairs<E: Enclosure>(
     y: Rect<E>,
     pairs: &[TapProduct<E>],
     matrix: &mut Matrix<E>,

@@ -18,7 +18,8 @@ mod taps;
 
 pub use assembly::Assembly;
 pub use exact::{exact_one, exact_zero};
-pub use fill::Fill;
+pub use fill::{Fill, add_pairs};
+pub use intervals::{LawIntervals, PlacedTap, TapProduct};
 pub use nodal_laws::{box_matrix_holds, reduced_matrix_holds};
 pub use orders::order_range;
 pub use series::{SeriesParameters, SeriesValues, series_admittance};

@@ -12,4 +12,6 @@ mod theta;
 pub use bench::InverseBench;
 pub use laws::{certificate_holds, worked_certificates};
 pub use outcome::InverseOutcome;
+pub use sigma::take_away;
+pub use size::{in_size, unit_of};
 pub use sums::combine;

@@ -36,8 +36,8 @@ fn multiply<E: Enclosure>(matrix: &Matrix<E>, x: &[Rect<E>], values: &mut [Rect<
     Some(())
 }
 
-// The first column less the second.
-fn take_away<E: Enclosure>(column: &mut [Rect<E>], other: &[Rect<E>]) -> Option<()>
+/// The first column less the second, in its place.
+pub fn take_away<E: Enclosure>(column: &mut [Rect<E>], other: &[Rect<E>]) -> Option<()>
     requires { length column.old ≡ length other.now }
     ensures { option_map (λ _. map (rectangle_of E.ends) column.new) result ≡ each_two sub_rectangles (map (rectangle_of E.ends) column.old) (map (rectangle_of E.ends) other.now) }
 {

@@ -1,5 +1,5 @@
 pub mod Each
 mod Steps
-mod Wide
+pub mod Wide
 mod Written
 mod Behind

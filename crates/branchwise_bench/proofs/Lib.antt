@@ -1,0 +1,5 @@
+pub mod Rounding
+pub mod Plain
+pub mod Pairs
+pub mod Reaches
+pub mod Founds

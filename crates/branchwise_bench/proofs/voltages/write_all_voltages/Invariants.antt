@@ -1,0 +1,13 @@
+use Rattle.std.proofs.Common.{◌≡◌, length, map}
+use Rattle.std.specs.List.{All}
+use Rattle.complex_interval.specs.Rect.{rectangle_of}
+use Rattle.certified_inverse.proofs.Placed.{PlacedTo}
+use Rattle.branchwise_test.specs.Sizes.{voltages}
+use Rattle.branchwise_bench.specs.Drops.{drop_ends}
+use Rattle.branchwise_bench.proofs.voltages.write_all_voltages.Given as goal
+
+abbrev pub invariant-loop-i : goal.invariant-loop-i
+invariant-loop-i g l = record {
+  value : PlacedTo (λ r. map (rectangle_of g.E.Enclosure.ends) r.items) (λ d. voltages g.E.Enclosure.SCALE l.inverse.rows d.taps) (map (drop_ends g.E.Enclosure.ends) l.drops) l.rows l.i;
+  wide : All (λ r. length r.items ≡ l.inverse.size) l.rows;
+}

@@ -1,0 +1,4 @@
+pub mod Bounds
+pub mod Drops
+pub mod Near
+pub mod Results

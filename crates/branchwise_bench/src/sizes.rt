@@ -1,0 +1,79 @@
+// Bounds of sizes, and how far sizes of drops reach by them.
+ghost use Rattle.std.specs.Prelude.{◌≡◌, ◌≤◌, length, map};
+ghost use Rattle.std.specs.List.{All};
+ghost use Rattle.std.specs.Option.{option_map};
+ghost use Rattle.complex_interval.specs.Rect.{rectangle_of};
+ghost use Rattle.plain_elimination.specs.Matrix.{Square};
+ghost use Rattle.branchwise_test.specs.Sizes.{bounds_of as bounds_stated};
+ghost use Rattle.branchwise_test.specs.Reach.{reach};
+ghost use Rattle.branchwise_bench.specs.Bounds.{bounds_of, reached_of, IsOfSize};
+ghost use Rattle.branchwise_bench.specs.Drops.{drop_ends};
+
+use crate::drops::DropIntervals;
+use crate::left::write_left;
+use crate::reach::{add_products, times_numbers, write_edges, write_nodes};
+use crate::transfers::write_transfers;
+use crate::voltages::write_rests;
+use complex_interval::{Enclosure, Rect};
+use middle_inverse::MiddleInverse;
+use plain_elimination::Matrix;
+
+/// Bounds of sizes: of the entries of (unit - C·P), of each drop where the current 1 flows in through each, and of the rests.
+#[derive(Drop)]
+pub struct Sizes {
+    pub left: Vec<Vec<u64>>,
+    pub transfers: Vec<Vec<u64>>,
+    pub rests: Vec<u64>,
+}
+
+/// Writes the bounds, by the matrix C on the inverse's bench, the matrix P and the voltages of all drops. `unit` and `sums` are overwritten.
+pub fn write_bounds<E: Enclosure>(
+    sizes: &mut Sizes,
+    drops: &[DropIntervals<E>],
+    voltages: &[Vec<Rect<E>>],
+    inverse: &MiddleInverse<E>,
+    matrix: &Matrix<E>,
+    unit: &mut [Rect<E>],
+    sums: &mut [Rect<E>],
+) -> Option<()>
+    requires sizes_in { IsOfSize matrix.now.size (length drops.now) sizes.old }
+    requires voltages_in { length voltages.now ≡ length drops.now }
+    requires same { inverse.now.size ≡ matrix.now.size }
+    requires square { length inverse.now.rows ≡ inverse.now.size }
+    requires unit_in { length unit.old ≡ matrix.now.size }
+    requires sums_in { length sums.old ≡ matrix.now.size }
+    ensures value { option_map (λ _. bounds_of sizes.new) result
+        ≡ bounds_stated E.SCALE (map (drop_ends E.ends) drops.now) matrix.now.rows inverse.now.rows (map (λ r. map (rectangle_of E.ends) r.items) voltages.now) }
+    ensures sizes_in { IsOfSize matrix.now.size (length drops.now) sizes.new }
+{
+    write_left(sizes.left.as_mut_slice(), inverse, matrix, unit, sums)?;
+    write_transfers(sizes.transfers.as_mut_slice(), drops, voltages)?;
+    write_rests(sizes.rests.as_mut_slice(), drops)
+}
+
+/// What numbers reach: what (unit - C·P) makes of them at each drop alone, and with what the rests add. `nodes` and `far` are overwritten.
+pub fn write_reaches<E: Enclosure>(
+    edges: &mut [u64],
+    all: &mut [u64],
+    sizes: &Sizes,
+    drops: &[DropIntervals<E>],
+    numbers: &[u64],
+    nodes: &mut [u64],
+    far: &mut [u64],
+) -> Option<()>
+    requires sizes_in { IsOfSize (length nodes.old) (length drops.now) sizes.now }
+    requires nodes_in { length nodes.old ≤ length drops.now }
+    requires numbers_in { length numbers.now ≡ length drops.now }
+    requires far_in { length far.old ≡ length drops.now }
+    requires edges_in { length edges.old ≡ length drops.now }
+    requires all_in { length all.old ≡ length drops.now }
+    ensures { option_map (λ _. reached_of edges.new all.new) result ≡ reach E.SCALE (bounds_of sizes.now) (map (drop_ends E.ends) drops.now) numbers.now }
+{
+    write_nodes(E::SCALE, nodes, sizes.left.as_slice(), numbers)?;
+    write_edges(edges, drops, nodes)?;
+    far.copy_from_slice(sizes.rests.as_slice());
+    times_numbers(E::SCALE, far, numbers)?;
+    all.copy_from_slice(edges);
+    add_products(E::SCALE, all, sizes.transfers.as_slice(), far)?;
+    Some(())
+}
