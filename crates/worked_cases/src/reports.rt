@@ -1,6 +1,6 @@
 // Reports, through the program.
 use crate::answers::{Answer, SCAN, assert_answer, assert_long_report, assert_reports, joined};
-use crate::{networks, studies};
+use crate::{curves, networks, studies};
 use harm_io::SteadyShelf;
 use std::test::Fail;
 
@@ -65,6 +65,15 @@ fn reports_of_lines_transformers_and_filters(rt: HostRuntime) -> Result<(), Fail
         (networks::EVERY_ELEMENT, networks::EVERY_ELEMENT_REPORT, 3),
         (networks::FULL, studies::NO_SCAN_REPORT, 0),
         (studies::TWO_RESONANCES, studies::TWO_RESONANCES_REPORT, 3),
+    ];
+    assert_reports(&rt, rt.alloc(), &cases)
+}
+
+#[test]
+fn reports_of_curves(rt: HostRuntime) -> Result<(), Fail> {
+    let cases = [
+        (curves::LEVEL, curves::LEVEL_REPORT, 0),
+        (curves::RISING, curves::RISING_REPORT, 0),
     ];
     assert_reports(&rt, rt.alloc(), &cases)
 }
