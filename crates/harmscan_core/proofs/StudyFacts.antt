@@ -1,5 +1,5 @@
 -- What follows from a study that can be scanned.
-use Rattle.std.proofs.Common.{◌≡◌, ◌≢◌, ◌⊎◌, inl, inr, ◌≤◌, ◌<◌, ◌∙◌, ℕ, ℤ, pos, negsuc, ◌≤ℤ◌, unsigned_abs, List, [], ◌∷◌, length, ap, subst, refl, arith}
+use Rattle.std.proofs.Common.{◌≡◌, ◌≢◌, ◌⊎◌, inl, inr, ◌≤◌, ◌<◌, ◌∙◌, ℕ, ℤ, pos, negsuc, ◌≤ℤ◌, unsigned_abs, List, [], ◌∷◌, length, Option, Some, None, ap, subst, refl, arith}
 use Rattle.std.proofs.lemmas.Int.{ints}
 use Rattle.std.specs.Prelude.{IsTrue}
 use Rattle.std.specs.List.{AllByRecursion}
@@ -22,8 +22,10 @@ use Rattle.band_subdivision.proofs.PairSound.{pair_is_sound}
 use Rattle.band_subdivision.proofs.Truths.{boxes_are_true}
 use Rattle.band_subdivision.proofs.Texts.{boxes_have_text}
 use Rattle.scan_report.specs.declared.boxes.BoxRow.{BoxRow}
-use Rattle.study_model.specs.Lawful.{IsLawful, IsLawfulScan}
+use Rattle.scan_report.specs.Rows.{IsAboveZero}
+use Rattle.study_model.specs.Lawful.{IsLawful, IsLawfulScan, IsThreshold}
 use Rattle.study_model.specs.Curve.{Spans, curve_points}
+use Rattle.study_model.specs.declared.curve.Curve.{Curve}
 use Rattle.study_model.specs.declared.curve.CurvePoint.{CurvePoint}
 use Rattle.study_model.specs.Range.{IsIn}
 use Rattle.study_model.specs.Voltages.{kv_of}
@@ -74,6 +76,11 @@ spec_in_range study scan b s =
 
 band_testable : (spec : ScanSpec) → IsScanSpec spec → IsTestable spec.from spec.from spec.to
 band_testable spec s = record { above = from_above spec s; begins = omega arith; ordered = omega (arith, s.band) }
+
+-- a threshold in ohms, where there is one, is above 0
+pub threshold_above : (version : ℕ) (threshold : Option ℤ) (curve : Curve) → IsThreshold version threshold curve → IsAboveZero threshold
+threshold_above version None curve h = tt
+threshold_above version (Some ohms) curve h = omega (arith, ints, h.1.0.0)
 
 -- ---- live buses
 live_at : (study : Study) (bus : ℕ) (sequence : Sequence) → HasLiveNetworks study → bus < length study.buses → (sequence ≡ Zero → Live (network_of study Zero) bus) → Live (network_of study sequence) bus
