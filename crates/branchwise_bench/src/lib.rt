@@ -15,5 +15,6 @@ mod sizes;
 mod sums;
 mod transfers;
 mod voltages;
+mod whole;
 
 pub use drops::DropIntervals;
