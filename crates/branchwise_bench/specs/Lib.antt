@@ -1,3 +1,4 @@
+pub mod Bench
 pub mod Bounds
 pub mod Drops
 pub mod Near

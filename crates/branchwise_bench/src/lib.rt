@@ -1,6 +1,7 @@
 // The branch-wise test of a box of orders, on a bench: no call but the first takes memory.
 #![tactic(auto)]
 
+mod bench;
 mod contracting;
 mod contraction;
 mod drops;
@@ -17,4 +18,5 @@ mod transfers;
 mod voltages;
 mod whole;
 
+pub use bench::DropBench;
 pub use drops::DropIntervals;

@@ -10,6 +10,7 @@ use crate::contracting::contraction_over;
 use crate::drops::DropIntervals;
 use crate::near::Contraction;
 use crate::sizes::Sizes;
+use crate::sums::zeros;
 use complex_interval::Enclosure;
 use std::alloc::{AllocError, Global};
 
@@ -24,15 +25,6 @@ pub struct Room {
     pub weighed: Vec<u64>,
     pub nodes: Vec<u64>,
     pub far: Vec<u64>,
-}
-
-// So many zeros.
-fn zeros(alloc: Global, count: usize) -> Result<Vec<u64>, AllocError>
-    ensures { IfOk result (λ v. length v.items ≡ count) }
-{
-    let mut numbers = Vec::new(alloc);
-    numbers.resize(count, 0)?;
-    Ok(numbers)
 }
 
 impl Room {

@@ -1,5 +1,5 @@
 // Bounds of sizes, and how far sizes of drops reach by them.
-ghost use Rattle.std.specs.Prelude.{◌≡◌, ◌≤◌, length, map};
+ghost use Rattle.std.specs.Prelude.{◌≡◌, ◌≤◌, IfOk, length, map};
 ghost use Rattle.std.specs.List.{All};
 ghost use Rattle.std.specs.Option.{option_map};
 ghost use Rattle.complex_interval.specs.Rect.{rectangle_of};
@@ -12,11 +12,13 @@ ghost use Rattle.branchwise_bench.specs.Drops.{drop_ends};
 use crate::drops::DropIntervals;
 use crate::left::write_left;
 use crate::reach::{add_products, times_numbers, write_edges, write_nodes};
+use crate::sums::zeros;
 use crate::transfers::write_transfers;
 use crate::voltages::write_rests;
 use complex_interval::{Enclosure, Rect};
 use middle_inverse::MiddleInverse;
 use plain_elimination::Matrix;
+use std::alloc::{AllocError, Global};
 
 /// Bounds of sizes: of the entries of (unit - C·P), of each drop where the current 1 flows in through each, and of the rests.
 #[derive(Drop)]
@@ -24,6 +26,34 @@ pub struct Sizes {
     pub left: Vec<Vec<u64>>,
     pub transfers: Vec<Vec<u64>>,
     pub rests: Vec<u64>,
+}
+
+// So many lists of so many zeros.
+fn zero_rows(alloc: Global, count: usize, width: usize) -> Result<Vec<Vec<u64>>, AllocError>
+    ensures count { IfOk result (λ rows. length rows.items ≡ count) }
+    ensures wide { IfOk result (λ rows. All (λ r. length r.items ≡ width) rows.items) }
+{
+    let mut rows = Vec::new(alloc);
+    for _row in 0..count {
+        rows.push(zeros(alloc, width)?)?;
+    }
+    Ok(rows)
+}
+
+impl Sizes {
+    /// Room for the bounds of so many nodes and drops.
+    pub fn new(alloc: Global, nodes: usize, drops: usize) -> Result<Sizes, AllocError>
+        ensures { IfOk result (IsOfSize nodes drops) }
+    {
+        let left = zero_rows(alloc, nodes, nodes)?;
+        let transfers = zero_rows(alloc, drops, drops)?;
+        let rests = zeros(alloc, drops)?;
+        Ok(Sizes {
+            left,
+            transfers,
+            rests,
+        })
+    }
 }
 
 /// Writes the bounds, by the matrix C on the inverse's bench, the matrix P and the voltages of all drops. `unit` and `sums` are overwritten.

@@ -1,5 +1,5 @@
 // Sums of sizes, in units of 1 / 2^SCALE. A number that is kept is at most 2^62.
-ghost use Rattle.std.specs.Prelude.{◌≡◌, ◌+◌, ◌-◌, ◌*◌, ◌^◌, ◌<◌, ◌≤◌, length, map};
+ghost use Rattle.std.specs.Prelude.{◌≡◌, ◌+◌, ◌-◌, ◌*◌, ◌^◌, ◌<◌, ◌≤◌, IfOk, length, map};
 ghost use Rattle.certified_inverse.specs.Certificate.{in_size, ceil_over};
 ghost use Rattle.admittance_box.specs.Intervals.{placed_ends};
 ghost use Rattle.branchwise_test.specs.Reach.{add_up, products_from, with_edge, edge_from};
@@ -7,6 +7,16 @@ ghost use Rattle.branchwise_test.specs.Reach.{add_up, products_from, with_edge, 
 use admittance_box::PlacedTap;
 use certified_inverse::{in_size, unit_of};
 use complex_interval::Enclosure;
+use std::alloc::{AllocError, Global};
+
+/// So many zeros.
+pub fn zeros(alloc: Global, count: usize) -> Result<Vec<u64>, AllocError>
+    ensures { IfOk result (λ v. length v.items ≡ count) }
+{
+    let mut numbers = Vec::new(alloc);
+    numbers.resize(count, 0)?;
+    Ok(numbers)
+}
 
 /// top/bottom, rounded up.
 pub fn ceil_over(top: u128, bottom: u128) -> u128
