@@ -1,6 +1,4 @@
 // Solutions of one and of two rows by a certified inverse, at scale 40: found by another program and, of one row, by hand.
-ghost use Rattle.plain_elimination.specs.declared.limits.TheConstants.{MAX_SIZE};
-
 use crate::compare::expect;
 use crate::patterns::{Entry, ONE, TWO, UNIT, matrix_of, pattern_of};
 use crate::rectangles::Corners;
