@@ -80,7 +80,7 @@ band_testable spec s = record { above = from_above spec s; begins = omega arith;
 -- a threshold in ohms, where there is one, is above 0
 pub threshold_above : (version : ℕ) (threshold : Option ℤ) (curve : Curve) → IsThreshold version threshold curve → IsAboveZero threshold
 threshold_above version None curve h = tt
-threshold_above version (Some ohms) curve h = omega (arith, ints, h.1.0.0)
+threshold_above version (Some ohms) curve h = let low = h.1.0 in omega (arith, ints, low)
 
 -- ---- live buses
 live_at : (study : Study) (bus : ℕ) (sequence : Sequence) → HasLiveNetworks study → bus < length study.buses → (sequence ≡ Zero → Live (network_of study Zero) bus) → Live (network_of study sequence) bus
