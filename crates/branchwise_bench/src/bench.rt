@@ -50,16 +50,16 @@ impl<E: Enclosure> Model for DropBench<E> {
     ghost view = { λ b. record { nodes = b.nodes; drops = b.drops } };
 
     ghost invariant = { λ b. record {
-        few : b.nodes ≤ MAX_SIZE;
-        matrix_in : b.matrix.size ≡ b.nodes;
-        inverse_in : b.inverse.size ≡ b.nodes;
-        voltages_in : length b.voltages.items ≡ b.drops;
-        voltages_wide : All (λ r. length r.items ≡ b.nodes) b.voltages.items;
-        xs_in : length b.xs.items ≡ b.drops;
-        unit_in : length b.unit.items ≡ b.nodes;
-        sums_in : length b.sums.items ≡ b.nodes;
-        sizes_in : IsOfSize b.nodes b.drops b.sizes;
-        room_in : HasRoom b.nodes b.drops b.room
+      few : b.nodes ≤ MAX_SIZE;
+      matrix_in : b.matrix.size ≡ b.nodes;
+      inverse_in : b.inverse.size ≡ b.nodes;
+      voltages_in : length b.voltages.items ≡ b.drops;
+      voltages_wide : All (λ r. length r.items ≡ b.nodes) b.voltages.items;
+      xs_in : length b.xs.items ≡ b.drops;
+      unit_in : length b.unit.items ≡ b.nodes;
+      sums_in : length b.sums.items ≡ b.nodes;
+      sizes_in : IsOfSize b.nodes b.drops b.sizes;
+      room_in : HasRoom b.nodes b.drops b.room;
     } };
 }
 

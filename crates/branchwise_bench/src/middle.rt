@@ -12,10 +12,7 @@ use complex_interval::Enclosure;
 use plain_elimination::Matrix;
 
 /// The matrix with the middle of each drop for each pair of its taps, from zeros on.
-pub fn write_middle<E: Enclosure>(
-    matrix: &mut Matrix<E>,
-    drops: &[DropIntervals<E>],
-) -> Option<()>
+pub fn write_middle<E: Enclosure>(matrix: &mut Matrix<E>, drops: &[DropIntervals<E>]) -> Option<()>
     requires { All (IsInside matrix.old.size) drops.now }
     ensures rows { option_map (λ _. matrix.new.rows) result ≡ with_middles E.SCALE (map (drop_ends E.ends) drops.now) (nought_rows matrix.old.size) }
     ensures size { matrix.new.size ≡ matrix.old.size }

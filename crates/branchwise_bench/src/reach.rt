@@ -12,12 +12,7 @@ use crate::sums::{add_up, edge_from, products_from};
 use complex_interval::Enclosure;
 
 /// What (unit - C·P) makes of sizes at each node.
-pub fn write_nodes(
-    scale: u32,
-    nodes: &mut [u64],
-    left: &[Vec<u64>],
-    numbers: &[u64],
-) -> Option<()>
+pub fn write_nodes(scale: u32, nodes: &mut [u64], left: &[Vec<u64>], numbers: &[u64]) -> Option<()>
     requires scale_in { scale ≤ 48 }
     requires count { length nodes.old ≡ length left.now }
     requires wide { All (λ r. length r.items ≤ length numbers.now) left.now }
