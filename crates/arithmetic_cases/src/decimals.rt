@@ -2,16 +2,11 @@
 use crate::compare::expect;
 use fixed_decimal::{Decimal, DecimalFault};
 
-fn read(text: &str) -> Option<Result<i64, DecimalFault>> {
-    if text.len() < 100 {
-        Some(Decimal::parse(text).map(|decimal| decimal.millionths))
-    } else {
-        None
+fn millionths(found: Result<Decimal, DecimalFault>) -> Result<i64, DecimalFault> {
+    match found {
+        Ok(decimal) => Ok(decimal.millionths),
+        Err(fault) => Err(fault),
     }
-}
-
-fn whole(value: i64) -> Result<i64, DecimalFault> {
-    Decimal::from_whole(value).map(|decimal| decimal.millionths)
 }
 
 #[test]
@@ -39,7 +34,8 @@ fn texts(rt: HostRuntime) {
             Err(DecimalFault::TooLarge),
         ),
     ] {
-        expect(&rt, read(text), Some(wanted), text);
+        assert!(rt; text.len() < 100);
+        expect(&rt, millionths(Decimal::parse(text)), wanted, text);
     }
 }
 
@@ -53,7 +49,7 @@ fn whole_numbers(rt: HostRuntime) {
     ] {
         expect(
             &rt,
-            (value, whole(value)),
+            (value, millionths(Decimal::from_whole(value))),
             (value, wanted),
             "a whole number",
         );

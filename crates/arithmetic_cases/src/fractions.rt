@@ -15,14 +15,6 @@ fn fraction(num: i128, den: i128) -> Result<Fraction, Fail> {
     Ok(Fraction::new(num, den).ok_or("no fraction")?)
 }
 
-// The parts of a fraction, where there is one.
-fn parts(found: Option<Fraction>) -> Option<(i128, i128)> {
-    match found {
-        Some(x) => Some((x.num, x.den)),
-        None => None,
-    }
-}
-
 #[test]
 fn parts_are_bounded(rt: HostRuntime) -> Result<(), Fail> {
     for (num, den, made) in [
@@ -48,7 +40,10 @@ fn product(
 ) -> Result<Option<(i128, i128)>, Fail> {
     let above = top.0.get(..top.1).ok_or("too many")?;
     let below = bottom.0.get(..bottom.1).ok_or("too many")?;
-    Ok(parts(Fraction::product(above, below)))
+    match Fraction::product(above, below) {
+        Some(x) => Ok(Some((x.num, x.den))),
+        None => Ok(None),
+    }
 }
 
 #[test]
@@ -79,15 +74,6 @@ fn multiplies_lists(rt: HostRuntime) -> Result<(), Fail> {
     Ok(())
 }
 
-// The floor and the ceiling at a scale of at most 48.
-fn scaled(x: Fraction, scale: u32) -> Option<(Option<i64>, Option<i64>)> {
-    if scale <= 48 {
-        Some((x.floor_scaled(scale), x.ceil_scaled(scale)))
-    } else {
-        None
-    }
-}
-
 // At scale 40; and at scale 0, where one end alone may be out of range.
 #[test]
 fn rounds_at_a_scale(rt: HostRuntime) -> Result<(), Fail> {
@@ -105,26 +91,15 @@ fn rounds_at_a_scale(rt: HostRuntime) -> Result<(), Fail> {
         (2 * WIDE_END + 1, 2, 0, Some(END), None),
         (-2 * WIDE_END - 1, 2, 0, None, Some(-END)),
     ] {
-        let found = scaled(fraction(num, den)?, scale);
-        expect(
-            &rt,
-            (num, den, found),
-            (num, den, Some((floor, ceil))),
-            "scaled",
-        );
+        let x = fraction(num, den)?;
+        assert!(rt; scale <= 48);
+        let found = (x.floor_scaled(scale), x.ceil_scaled(scale));
+        expect(&rt, (num, den, found), (num, den, (floor, ceil)), "scaled");
     }
     Ok(())
 }
 
 // The floor and the ceiling of k times half of a fraction that isn't negative.
-fn times(x: Fraction, k: u64) -> Option<(Option<i128>, Option<i128>)> {
-    if 0 <= x.num {
-        Some((x.floor_times(k, 1), x.ceil_times(k, 1)))
-    } else {
-        None
-    }
-}
-
 #[test]
 fn multiplies_and_rounds(rt: HostRuntime) -> Result<(), Fail> {
     for (num, den, k, floor, ceil) in [
@@ -143,23 +118,13 @@ fn multiplies_and_rounds(rt: HostRuntime) -> Result<(), Fail> {
             Some(9223372036854775808),
         ),
     ] {
-        let found = times(fraction(num, den)?, k);
-        expect(
-            &rt,
-            (k, num, den, found),
-            (k, num, den, Some((floor, ceil))),
-            "a half of it",
-        );
+        let x = fraction(num, den)?;
+        assert!(rt; 0 <= x.num);
+        let found = (x.floor_times(k, 1), x.ceil_times(k, 1));
+        let wanted = (floor, ceil);
+        expect(&rt, (k, num, den, found), (k, num, den, wanted), "a half");
     }
     Ok(())
-}
-
-fn roots(n: u128) -> Option<(u64, u64)> {
-    if n <= u128::MAX / 2 {
-        Some((root_floor(n), root_ceil(n)))
-    } else {
-        None
-    }
 }
 
 #[test]
@@ -174,12 +139,10 @@ fn takes_roots(rt: HostRuntime) {
         (1 << 126, 9223372036854775808, 9223372036854775808),
         (u128::MAX / 2, 13043817825332782212, 13043817825332782213),
     ] {
-        expect(&rt, (n, roots(n)), (n, Some((floor, ceil))), "the roots");
+        assert!(rt; n <= u128::MAX / 2);
+        let found = (root_floor(n), root_ceil(n));
+        expect(&rt, (n, found), (n, (floor, ceil)), "the roots");
     }
-}
-
-fn order(x: Fraction, y: Fraction) -> (bool, bool) {
-    (x.at_most(y), y.at_most(x))
 }
 
 #[test]
@@ -209,7 +172,8 @@ fn orders_values(rt: HostRuntime) -> Result<(), Fail> {
             true,
         ),
     ] {
-        let found = order(fraction(a, b)?, fraction(c, d)?);
+        let (x, y) = (fraction(a, b)?, fraction(c, d)?);
+        let found = (x.at_most(y), y.at_most(x));
         expect(&rt, found, (at_most, at_least), label);
     }
     Ok(())

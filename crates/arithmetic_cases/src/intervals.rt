@@ -102,122 +102,174 @@ fn result_of(operation: Operation, a: Ends, b: Ends) -> Result<Option<Ends>, Fai
     }))
 }
 
+// Up to the largest end, by each sign, and by intervals that hold zero.
 #[test]
-fn reaches_the_largest_end(rt: HostRuntime) -> Result<(), Fail> {
-    let largest = Some((END, END));
-    let (factor, above) = ((1 << 51, 1 << 51), ((1 << 51) + 1, (1 << 51) + 1));
-    let (one, least, less) = (
-        (ONE, ONE),
-        (1 << 18, 1 << 18),
-        ((1 << 18) - 1, (1 << 18) - 1),
-    );
-    for (label, operation, a, b, wanted) in [
-        ("a product", Operation::Product, factor, factor, largest),
-        ("a product", Operation::Product, above, above, None),
-        ("a square", Operation::Square, above, above, None),
-        ("a quotient", Operation::Quotient, one, least, largest),
-        ("a quotient", Operation::Quotient, one, less, None),
-    ] {
-        expect(
-            &rt,
-            (a, b, result_of(operation, a, b)?),
-            (a, b, wanted),
-            label,
-        );
-    }
-    Ok(())
-}
-
-#[test]
-fn adds_at_the_largest_end(rt: HostRuntime) -> Result<(), Fail> {
-    let largest = (END, END);
-    let below = Some((END - 1, END));
-    for (x, sum, difference) in [
-        ((1, 1), None, Some((END - 1, END - 1))),
-        ((-1, 0), below, None),
-        ((0, 1), None, below),
-        ((-1, 1), None, None),
-    ] {
-        let found = (
-            result_of(Operation::Sum, largest, x)?,
-            result_of(Operation::Difference, largest, x)?,
-        );
-        expect(
-            &rt,
-            (x, found),
-            (x, (sum, difference)),
-            "a sum and a difference",
-        );
-    }
-    Ok(())
-}
-
-#[test]
-fn multiplies(rt: HostRuntime) -> Result<(), Fail> {
+fn operations(rt: HostRuntime) -> Result<(), Fail> {
     let o = ONE;
+    let largest = (END, END);
+    let (factor, above) = ((1 << 51, 1 << 51), ((1 << 51) + 1, (1 << 51) + 1));
+    let (least, less) = ((1 << 18, 1 << 18), ((1 << 18) - 1, (1 << 18) - 1));
+    let (three_halves, third) = (1649267441664, 366503875926);
     for (label, operation, a, b, wanted) in [
+        ("a sum", Operation::Sum, largest, (1, 1), None),
+        (
+            "a sum",
+            Operation::Sum,
+            largest,
+            (-1, 0),
+            Some((END - 1, END)),
+        ),
+        ("a sum", Operation::Sum, largest, (0, 1), None),
+        ("a sum", Operation::Sum, largest, (-1, 1), None),
+        (
+            "a difference",
+            Operation::Difference,
+            largest,
+            (1, 1),
+            Some((END - 1, END - 1)),
+        ),
+        (
+            "a difference",
+            Operation::Difference,
+            largest,
+            (-1, 0),
+            None,
+        ),
+        (
+            "a difference",
+            Operation::Difference,
+            largest,
+            (0, 1),
+            Some((END - 1, END)),
+        ),
+        (
+            "a difference",
+            Operation::Difference,
+            largest,
+            (-1, 1),
+            None,
+        ),
+        (
+            "a product",
+            Operation::Product,
+            factor,
+            factor,
+            Some(largest),
+        ),
+        ("a product", Operation::Product, above, above, None),
         (
             "a product",
             Operation::Product,
             (-3 * o, 2 * o),
             (5 * o, 7 * o),
-            (-21 * o, 14 * o),
+            Some((-21 * o, 14 * o)),
         ),
         (
             "a product",
             Operation::Product,
             (-3 * o, 2 * o),
             (-3 * o, 2 * o),
-            (-6 * o, 9 * o),
+            Some((-6 * o, 9 * o)),
         ),
-        ("a product", Operation::Product, (-3, 2), (5, 7), (-1, 1)),
+        (
+            "a product",
+            Operation::Product,
+            (-3, 2),
+            (5, 7),
+            Some((-1, 1)),
+        ),
+        ("a square", Operation::Square, above, (0, 0), None),
         (
             "a square",
             Operation::Square,
             (-3 * o, 2 * o),
             (0, 0),
-            (0, 9 * o),
+            Some((0, 9 * o)),
         ),
         (
             "a square",
             Operation::Square,
             (5 * o, 7 * o),
             (0, 0),
-            (25 * o, 49 * o),
+            Some((25 * o, 49 * o)),
         ),
         (
             "a square",
             Operation::Square,
             (-3 * o, -2 * o),
             (0, 0),
-            (4 * o, 9 * o),
+            Some((4 * o, 9 * o)),
         ),
+        (
+            "a quotient",
+            Operation::Quotient,
+            (o, o),
+            least,
+            Some(largest),
+        ),
+        ("a quotient", Operation::Quotient, (o, o), less, None),
+        (
+            "a quotient",
+            Operation::Quotient,
+            (6, 8),
+            (2, 4),
+            Some((three_halves, 4 * o)),
+        ),
+        (
+            "a quotient",
+            Operation::Quotient,
+            (-6, 8),
+            (2, 4),
+            Some((-3 * o, 4 * o)),
+        ),
+        (
+            "a quotient",
+            Operation::Quotient,
+            (-8, -6),
+            (2, 4),
+            Some((-4 * o, -three_halves)),
+        ),
+        (
+            "a quotient",
+            Operation::Quotient,
+            (6, 8),
+            (-4, -2),
+            Some((-4 * o, -three_halves)),
+        ),
+        (
+            "a quotient",
+            Operation::Quotient,
+            (-6, 8),
+            (-4, -2),
+            Some((-4 * o, 3 * o)),
+        ),
+        (
+            "a quotient",
+            Operation::Quotient,
+            (-8, -6),
+            (-4, -2),
+            Some((three_halves, 4 * o)),
+        ),
+        (
+            "a quotient",
+            Operation::Quotient,
+            (0, 1),
+            (3, 3),
+            Some((0, third)),
+        ),
+        (
+            "a quotient",
+            Operation::Quotient,
+            (-1, 0),
+            (3, 3),
+            Some((-third, 0)),
+        ),
+        ("a quotient", Operation::Quotient, (1, 1), (0, 4), None),
+        ("a quotient", Operation::Quotient, (1, 1), (-4, 0), None),
+        ("a quotient", Operation::Quotient, (0, 0), (-1, 1), None),
     ] {
         let found = result_of(operation, a, b)?;
-        expect(&rt, (a, b, found), (a, b, Some(wanted)), label);
-    }
-    Ok(())
-}
-
-// By each sign of both, and by intervals that hold zero.
-#[test]
-fn divides_by_each_sign(rt: HostRuntime) -> Result<(), Fail> {
-    let three_halves = 1649267441664;
-    for (a, b, wanted) in [
-        ((6, 8), (2, 4), Some((three_halves, 4 * ONE))),
-        ((-6, 8), (2, 4), Some((-3 * ONE, 4 * ONE))),
-        ((-8, -6), (2, 4), Some((-4 * ONE, -three_halves))),
-        ((6, 8), (-4, -2), Some((-4 * ONE, -three_halves))),
-        ((-6, 8), (-4, -2), Some((-4 * ONE, 3 * ONE))),
-        ((-8, -6), (-4, -2), Some((three_halves, 4 * ONE))),
-        ((0, 1), (3, 3), Some((0, 366503875926))),
-        ((-1, 0), (3, 3), Some((-366503875926, 0))),
-        ((1, 1), (0, 4), None),
-        ((1, 1), (-4, 0), None),
-        ((0, 0), (-1, 1), None),
-    ] {
-        let found = result_of(Operation::Quotient, a, b)?;
-        expect(&rt, (a, b, found), (a, b, wanted), "a quotient");
+        expect(&rt, (a, b, found), (a, b, wanted), label);
     }
     Ok(())
 }

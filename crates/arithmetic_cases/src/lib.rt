@@ -1,4 +1,4 @@
-// Worked values of the fractions, the intervals and the decimals, by the public calls.
+// Worked values of the decimals, the fractions, the intervals and the matrices of rectangles, by the public calls.
 #![tactic(auto)]
 
 #[cfg(test)]
@@ -6,8 +6,14 @@ mod compare;
 #[cfg(test)]
 mod decimals;
 #[cfg(test)]
+mod enclosures;
+#[cfg(test)]
 mod fractions;
 #[cfg(test)]
 mod intervals;
 #[cfg(test)]
+mod patterns;
+#[cfg(test)]
 mod rectangles;
+#[cfg(test)]
+mod rows;

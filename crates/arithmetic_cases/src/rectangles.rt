@@ -9,24 +9,24 @@ const ONE: i64 = 1 << 40;
 const END: i64 = 1 << 62;
 
 // The raw ends of the real part, and those of the imaginary part.
-type Corners = [i64; 4];
+pub type Corners = [i64; 4];
 
-fn corners(z: Option<Rect<Span<40>>>) -> Option<Corners> {
+pub fn corners(z: Rect<Span<40>>) -> Corners {
+    [z.re.low(), z.re.high(), z.im.low(), z.im.high()]
+}
+
+fn ends(z: Option<Rect<Span<40>>>) -> Option<Corners> {
     match z {
-        Some(z) => Some([z.re.low(), z.re.high(), z.im.low(), z.im.high()]),
+        Some(z) => Some(corners(z)),
         None => None,
     }
 }
 
-fn rectangle(corners: Corners) -> Result<Rect<Span<40>>, Fail> {
+pub fn rectangle(corners: Corners) -> Result<Rect<Span<40>>, Fail> {
     Ok(Rect {
         re: raw((corners[0], corners[1]))?,
         im: raw((corners[2], corners[3]))?,
     })
-}
-
-const fn point(re: i64, im: i64) -> Corners {
-    [re, re, im, im]
 }
 
 #[derive(Clone, Copy)]
@@ -41,7 +41,7 @@ enum Operation {
 
 fn result_of(operation: Operation, a: Corners, b: Corners) -> Result<Option<Corners>, Fail> {
     let (z, w) = (rectangle(a)?, rectangle(b)?);
-    Ok(corners(match operation {
+    Ok(ends(match operation {
         Operation::Sum => z.add(w),
         Operation::Difference => z.sub(w),
         Operation::Product => z.mul(w),
@@ -50,32 +50,36 @@ fn result_of(operation: Operation, a: Corners, b: Corners) -> Result<Option<Corn
     }))
 }
 
+// Quotients by the real part, by the imaginary part, and by a divisor with no part apart from zero. In the last four the divisor's
+// lesser part is one raw unit about zero, so that its square reaches zero only by rounding: from -1 to 1, clipped.
 #[test]
-fn sums_and_products(rt: HostRuntime) -> Result<(), Fail> {
+fn operations(rt: HostRuntime) -> Result<(), Fail> {
     let o = ONE;
-    let (z, w, largest) = (point(o, 2 * o), point(3 * o, -o), point(END, 0));
+    let (z, w) = ([o, o, 2 * o, 2 * o], [3 * o, 3 * o, -o, -o]);
+    let (turned, one) = ([2 * o, 2 * o, o, o], [o, o, 0, 0]);
+    let largest = [END, END, 0, 0];
     for (label, operation, a, b, wanted) in [
-        ("a sum", Operation::Sum, z, w, Some(point(4 * o, o))),
+        ("a sum", Operation::Sum, z, w, Some([4 * o, 4 * o, o, o])),
         (
             "a difference",
             Operation::Difference,
             z,
             w,
-            Some(point(-2 * o, 3 * o)),
+            Some([-2 * o, -2 * o, 3 * o, 3 * o]),
         ),
         (
             "a product",
             Operation::Product,
             z,
             w,
-            Some(point(5 * o, 5 * o)),
+            Some([5 * o, 5 * o, 5 * o, 5 * o]),
         ),
         (
             "a multiple",
             Operation::Multiple,
             z,
-            point(-2 * o, 0),
-            Some(point(-2 * o, -4 * o)),
+            [-2 * o, -2 * o, 0, 0],
+            Some([-2 * o, -2 * o, -4 * o, -4 * o]),
         ),
         ("a sum", Operation::Sum, largest, largest, None),
         ("a product", Operation::Product, largest, w, None),
@@ -90,45 +94,55 @@ fn sums_and_products(rt: HostRuntime) -> Result<(), Fail> {
             "a quotient",
             Operation::Quotient,
             largest,
-            point(o / 2, 0),
+            [o / 2, o / 2, 0, 0],
             None,
         ),
-    ] {
-        expect(
-            &rt,
-            (a, b, result_of(operation, a, b)?),
-            (a, b, wanted),
-            label,
-        );
-    }
-    Ok(())
-}
-
-// By the real part, by the imaginary part, and by a divisor with no part apart from zero. In the last four the divisor's lesser
-// part is one raw unit about zero, so that its square reaches zero only by rounding: from -1 to 1, clipped.
-#[test]
-fn quotients(rt: HostRuntime) -> Result<(), Fail> {
-    let o = ONE;
-    let (z, w) = (point(o, 2 * o), point(2 * o, o));
-    for (a, b, wanted) in [
         (
+            "a quotient",
+            Operation::Quotient,
             z,
-            w,
+            turned,
             Some([879609302220, 879609302221, 659706976665, 659706976666]),
         ),
         (
-            w,
+            "a quotient",
+            Operation::Quotient,
+            turned,
             z,
             Some([879609302220, 879609302221, -659706976666, -659706976665]),
         ),
-        (z, [-1, 0, 0, 1], None),
-        (point(o, 0), [o, o, -1, 1], Some([o - 1, o, -1, 1])),
-        (point(o, 0), [-1, 1, -o, -o], Some([-1, 1, o - 1, o])),
-        (point(o, 0), [-o, -o, -1, 1], Some([-o, 1 - o, -1, 1])),
-        (point(o, 0), [-1, 1, o, o], Some([-1, 1, -o, 1 - o])),
+        ("a quotient", Operation::Quotient, z, [-1, 0, 0, 1], None),
+        (
+            "a quotient",
+            Operation::Quotient,
+            one,
+            [o, o, -1, 1],
+            Some([o - 1, o, -1, 1]),
+        ),
+        (
+            "a quotient",
+            Operation::Quotient,
+            one,
+            [-1, 1, -o, -o],
+            Some([-1, 1, o - 1, o]),
+        ),
+        (
+            "a quotient",
+            Operation::Quotient,
+            one,
+            [-o, -o, -1, 1],
+            Some([-o, 1 - o, -1, 1]),
+        ),
+        (
+            "a quotient",
+            Operation::Quotient,
+            one,
+            [-1, 1, o, o],
+            Some([-1, 1, -o, 1 - o]),
+        ),
     ] {
-        let found = result_of(Operation::Quotient, a, b)?;
-        expect(&rt, (a, b, found), (a, b, wanted), "a quotient");
+        let found = result_of(operation, a, b)?;
+        expect(&rt, (a, b, found), (a, b, wanted), label);
     }
     Ok(())
 }
@@ -142,7 +156,7 @@ fn squares_of_sizes(rt: HostRuntime) -> Result<(), Fail> {
     let square = 1_u128 << 125;
     for (z, wanted) in [
         ([3, 4, -2, 1], (9, 20, 6)),
-        (point(END, -END), (square, square, 1 << 63)),
+        ([END, END, -END, -END], (square, square, 1 << 63)),
     ] {
         expect(&rt, (z, sizes_of(rectangle(z)?)), (z, wanted), "the sizes");
     }

@@ -6,7 +6,7 @@ use Rattle.exact_algebra.proofs.Ratios.{ratio_ring, num-whole, one_apart}
 use Rattle.exact_algebra.proofs.Order.{NotNegative, ratio_order, at_most_is}
 use Rattle.exact_algebra.proofs.Quotients.{square_not_negative}
 
-abbrev one : Ratio
+abbrev pub one : Ratio
 one = whole (pos 1)
 
 -- the admittance is at least 1/T, where G is at least 1/T and its square at most low

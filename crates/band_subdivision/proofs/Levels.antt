@@ -98,18 +98,18 @@ halved n finest h =
 full : (n finest lo hi : ℕ) → n ≡ 16 → hi ≤ lo + 2 ^ (16 - n) * finest → finest < hi - lo → ⊥
 full n finest lo hi e h wide = let h' : hi ≤ lo + 2 ^ (16 - 16) * finest = subst (λ (m : ℕ). hi ≤ lo + 2 ^ (16 - m) * finest) e h in omega arith
 
-split_levels : (finest lo hi : ℕ) (bs : List Band) → IsStack finest (record { lo = lo; hi = hi } ∷ bs) → finest < hi - lo
-    → IsStack finest (record { lo = lo; hi = middle lo hi } ∷ record { lo = middle lo hi; hi = hi } ∷ bs)
-split_levels finest lo hi bs stack wide =
+split_levels : (from finest lo hi : ℕ) (bs : List Band) → IsStack from finest (record { lo = lo; hi = hi } ∷ bs) → finest < hi - lo
+    → IsStack from finest (record { lo = lo; hi = middle lo hi } ∷ record { lo = middle lo hi; hi = hi } ∷ bs)
+split_levels from finest lo hi bs stack wide =
     let bound : hi ≤ lo + 2 ^ (16 - length bs) * finest = stack.levels.1 in
     let at_most : length bs ≤ 16 = omega (arith, stack.fits) in
     let other : length bs ≢ 16 = λ (e : length bs ≡ 16). full (length bs) finest lo hi e bound wide in
     let few : length bs < 16 = omega arith in
     let half : 2 ^ (16 - length bs) * finest ≡ 2 * (2 ^ (16 - suc (length bs)) * finest) = halved (length bs) finest few in
     let fine : 1 ≤ finest = stack.split in
-    let within : IsTestable lo hi = stack.levels.2 in
-    let lower : IsTestable lo (middle lo hi) = record { above = within.above; ordered = omega arith } in
-    let upper : IsTestable (middle lo hi) hi = record { above = omega (arith, within.above); ordered = omega arith } in
+    let within : IsTestable from lo hi = stack.levels.2 in
+    let lower : IsTestable from lo (middle lo hi) = record { above = within.above; begins = within.begins; ordered = omega arith } in
+    let upper : IsTestable from (middle lo hi) hi = record { above = omega (arith, within.above); begins = omega (arith, within.begins); ordered = omega arith } in
     record {
       split = fine;
       fits = omega arith;
@@ -117,22 +117,22 @@ split_levels finest lo hi bs stack wide =
     }
 
 -- a split keeps the bounds
-pub stack_split : (finest : ℕ) (s : List Band) (lo hi : ℕ) → IsStack finest s → HasTop s lo hi → finest < hi - lo → IsStack finest (split_top s (middle lo hi))
-stack_split finest s lo hi stack top wide =
-    rw top.is (split_levels finest lo hi top.below (rw top.is at stack) wide)
+pub stack_split : (from finest : ℕ) (s : List Band) (lo hi : ℕ) → IsStack from finest s → HasTop s lo hi → finest < hi - lo → IsStack from finest (split_top s (middle lo hi))
+stack_split from finest s lo hi stack top wide =
+    rw top.is (split_levels from finest lo hi top.below (rw top.is at stack) wide)
 
 -- so does a box that is taken away
-pub stack_below : (finest : ℕ) (s : List Band) (lo hi : ℕ) → IsStack finest s → HasTop s lo hi → IsStack finest (below_top s)
-stack_below finest s lo hi stack top =
-    let whole : IsStack finest (record { lo = lo; hi = hi } ∷ top.below) = rw top.is at stack in
+pub stack_below : (from finest : ℕ) (s : List Band) (lo hi : ℕ) → IsStack from finest s → HasTop s lo hi → IsStack from finest (below_top s)
+stack_below from finest s lo hi stack top =
+    let whole : IsStack from finest (record { lo = lo; hi = hi } ∷ top.below) = rw top.is at stack in
     rw top.is (record { split = whole.split; fits = omega (arith, whole.fits); levels = whole.levels.3 })
 
 -- the top band of a stack is above its beginning
-pub top_above : (finest : ℕ) (s : List Band) (lo hi : ℕ) → IsStack finest s → HasTop s lo hi → lo < hi
-top_above finest s lo hi stack top =
-    let whole : IsStack finest (record { lo = lo; hi = hi } ∷ top.below) = rw top.is at stack in whole.levels.0
+pub top_above : (from finest : ℕ) (s : List Band) (lo hi : ℕ) → IsStack from finest s → HasTop s lo hi → lo < hi
+top_above from finest s lo hi stack top =
+    let whole : IsStack from finest (record { lo = lo; hi = hi } ∷ top.below) = rw top.is at stack in whole.levels.0
 
 -- and may be tested
-pub top_testable : (finest : ℕ) (s : List Band) (lo hi : ℕ) → IsStack finest s → HasTop s lo hi → IsTestable lo hi
-top_testable finest s lo hi stack top =
-    let whole : IsStack finest (record { lo = lo; hi = hi } ∷ top.below) = rw top.is at stack in whole.levels.2
+pub top_testable : (from finest : ℕ) (s : List Band) (lo hi : ℕ) → IsStack from finest s → HasTop s lo hi → IsTestable from lo hi
+top_testable from finest s lo hi stack top =
+    let whole : IsStack from finest (record { lo = lo; hi = hi } ∷ top.below) = rw top.is at stack in whole.levels.2

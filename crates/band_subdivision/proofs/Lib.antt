@@ -11,3 +11,11 @@ pub mod Truths
 pub mod Texts
 pub mod PairTests
 pub mod Scans
+pub mod Lifts
+pub mod Near
+pub mod PartTests
+pub mod InverseSound
+pub mod Enclosures
+pub mod PairSound
+pub mod Filled
+pub mod Curves

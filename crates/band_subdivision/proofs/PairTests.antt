@@ -1,4 +1,4 @@
--- The test of a pair of networks is sound.
+-- The reduced admittances of a pair of networks hold the exact ones.
 use Rattle.std.proofs.Common.{◌≡◌, ℕ, List, [], ◌∷◌, ℤ, pos, ◌≤ℤ◌, Bool, true, false, Some, Result, Ok, Err, refl, subst, arith}
 use Rattle.std.specs.Prelude.{int_lt, if◌then◌else◌}
 use Rattle.std.specs.Result.{result_ok}
@@ -28,9 +28,8 @@ use Rattle.admittance_box.proofs.Ranges.{order_encloses}
 use Rattle.admittance_box.proofs.ReducedMatrices.{reduced_matrix_holds}
 use Rattle.admittance_box.proofs.Steps.{bind-some}
 use Rattle.band_subdivision.specs.PairTest.{with_extra, pair_value, scanned_network}
-use Rattle.band_subdivision.specs.PairTruth.{PairTestIsSound}
-use Rattle.band_subdivision.specs.Truth.{orders, ReducesTo}
-use Rattle.band_subdivision.proofs.Sound.{test_is_sound}
+use Rattle.band_subdivision.specs.Levels.{orders}
+use Rattle.band_subdivision.specs.Truth.{ReducesTo}
 
 -- the exact admittance of the extra susceptance
 module _ (e : Ratio) (h : Order) (z : Complex) where
@@ -63,7 +62,7 @@ module _ (e : Ratio) (h : Order) (z : Complex) where
       (search reads depth 40 fits 4000) none_left
 
 -- with H·e added to the imaginary part, a box that held a number holds the sum with jhe
-extra_held : (s lo hi : ℕ) (e : Ratio) (y held : Rectangle) (z : Complex) (h : Order) → IsOrder h → LiesIn h (orders lo hi) → with_extra s (range_ends s e e) lo hi y ≡ Some held
+pub extra_held : (s lo hi : ℕ) (e : Ratio) (y held : Rectangle) (z : Complex) (h : Order) → IsOrder h → LiesIn h (orders lo hi) → with_extra s (range_ends s e e) lo hi y ≡ Some held
     → EnclosesComplex s y z → EnclosesComplex s held (complex_plus z (shunt_admittance e h))
 extra_held s lo hi e y held z h is_order inside made holds =
     let (b, is_b, rest) = bind-some _ _ held made in
@@ -78,12 +77,19 @@ extra_held s lo hi e y held z h is_order inside made holds =
     })
 
 -- what a value of the pair holds, step by step
-ok_some : {X E : Type 0} (r : Result X E) (x : X) → result_ok r ≡ Some x → r ≡ Ok x
+pub ok_some : {X E : Type 0} (r : Result X E) (x : X) → result_ok r ≡ Some x → r ≡ Ok x
 ok_some (Ok y) x h = cc
 ok_some (Err e) x h = absurd (cc)
 
-not_above : (z : ℤ) → pos 0 ≤ℤ z → int_lt (pos 0) z ≡ false → z ≡ pos 0
+pub not_above : (z : ℤ) → pos 0 ≤ℤ z → int_lt (pos 0) z ≡ false → z ≡ pos 0
 not_above z h none = grind (arith, ints)
+
+-- where that is 0, it holds the number itself
+pub held_without : (s : ℕ) (e : Ratio) (h : Order) (y : Complex) (held : Rectangle) → e ≈ whole (pos 0) → EnclosesComplex s held (complex_plus y (shunt_admittance e h)) → EnclosesComplex s held y
+held_without s e h y held nothing holds = record {
+  re = holds_along _ _ s _ _ (ratio_ring.back (real_stays e h y)) holds.re;
+  im = holds_along _ _ s _ _ (imaginary_stays e h y nothing) holds.im;
+}
 
 scanned_held : (s : ℕ) (network : Network) (driven : ℕ) (e : Ratio) (h : Order) (y : Complex) (held : Rectangle) → pos 0 ≤ℤ e.num → IsReducedTo network h driven y
     → EnclosesComplex s held (complex_plus y (shunt_admittance e h)) → HoldsReduced s (scanned_network network driven e) h driven held
@@ -93,26 +99,15 @@ scanned_held s network driven e h y held natural reduced holds = by (int_lt (pos
     by true some = record { y = complex_plus y (shunt_admittance e h); reduced = extra_shunt network h driven y e reduced; held = holds }
     by false none =
         let nothing : e ≈ whole (pos 0) = num_nought e (not_above e.num natural none) in
-        record {
-          y = y;
-          reduced = reduced;
-          held = record {
-            re = holds_along _ _ s _ _ (ratio_ring.back (real_stays e h y)) holds.re;
-            im = holds_along _ _ s _ _ (imaginary_stays e h y nothing) holds.im;
-          };
-        }
+        record { y = y; reduced = reduced; held = held_without s e h y held nothing holds }
 
-pair_reduces : (s : ℕ) (low high : Network) (driven : ℕ) (ordering : List ℕ) (e : Ratio) → CanAssemble low high driven ordering → pos 0 ≤ℤ e.num
-    → (network : Network) → LiesBetween network low high → ReducesTo s (pair_value s low high ordering e) (scanned_network network driven e) driven
+pub pair_reduces : (s from : ℕ) (low high : Network) (driven : ℕ) (ordering : List ℕ) (e : Ratio) → CanAssemble low high driven ordering → pos 0 ≤ℤ e.num
+    → (network : Network) → LiesBetween network low high → ReducesTo s from (pair_value s low high ordering e) (scanned_network network driven e) driven
 unfolding pair_value
-pair_reduces s low high driven ordering e can natural network between = record {
+pair_reduces s from low high driven ordering e can natural network between = record {
   at_each = λ lo hi held h testable value is_order inside.
-      let (y, is_reduced, made) = bind-some _ _ held value in
-      let (rows, is_rows, is_y) = bind-some _ _ y is_reduced in
+      let (rows, is_rows, reduced) = bind-some _ _ held value in
+      let (y, is_y, made) = bind-some _ _ held reduced in
       let exact = reduced_matrix_holds s low high driven ordering can lo hi rows y (ok_some _ _ is_rows) (ok_some _ _ is_y) h is_order inside network between in
       scanned_held s network driven e h exact.y held natural exact.reduced (extra_held s lo hi e y held exact.y h is_order inside made exact.held);
 }
-
-pub pair_is_sound : PairTestIsSound
-pair_is_sound scale levels low high driven ordering e in_range can natural network between =
-    test_is_sound scale levels (pair_value scale low high ordering e) (scanned_network network driven e) driven in_range (pair_reduces scale low high driven ordering e can natural network between)

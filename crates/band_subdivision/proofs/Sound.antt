@@ -1,10 +1,10 @@
--- The interval test is sound.
+-- The elimination part is sound.
 use Rattle.std.proofs.Common.{◌≡◌, ℕ, ◌*◌, ◌^◌, ◌≤◌, ◌<◌, ℤ, pos, negsuc, ◌≤ℤ◌, ◌*ℤ◌, unsigned_abs, Bool, true, false, Option, Some, None, refl, sym, subst, arith, [], ◌∷◌}
 use Rattle.std.specs.Prelude.{nat_le, nat_lt, ◌&&◌, if◌then◌else◌}
 use Rattle.std.proofs.lemmas.Bool.Decides.{nat_tests}
-use Rattle.std.proofs.lemmas.Int.{ints, by_lt_z}
+use Rattle.std.proofs.lemmas.Int.{ints}
 use Rattle.std.proofs.lemmas.Nat.{pow_pos}
-use Rattle.exact_algebra.specs.Ratio.{Ratio, den, ◌≈◌, ◌≼◌, ◌≺◌, times, opposite, whole, reciprocal}
+use Rattle.exact_algebra.specs.Ratio.{◌≈◌, ◌≼◌, times, opposite, whole, reciprocal}
 use Rattle.exact_algebra.specs.Complex.{Complex, complex_numbers, square_size}
 use Rattle.exact_algebra.specs.Floor.{floor_div}
 use Rattle.exact_algebra.proofs.Reader.{reads, linear, weigh, none_left}
@@ -22,18 +22,19 @@ use Rattle.network_theory.specs.Order.{Order, IsOrder}
 use Rattle.network_theory.specs.Box.{LiesIn}
 use Rattle.network_theory.specs.Network.{Network}
 use Rattle.network_theory.specs.DrivingPoint.{in_ohms}
-use Rattle.network_theory.specs.Threshold.{flat, per_unit}
+use Rattle.network_theory.specs.Threshold.{flat}
 use Rattle.network_theory.specs.Scanned.{micro, IsClearedAt, IsPeakAt, IsPeak}
 use Rattle.network_theory.proofs.Reduced.{cleared, reduced_impedance, times_inverse}
 use Rattle.network_theory.proofs.Sizes.{above_by}
 use Rattle.network_theory.proofs.Ohms.{ohms_square}
 use Rattle.band_subdivision.specs.Boxes.{IsTestable}
-use Rattle.band_subdivision.specs.IntervalTest.{AreScanLevels, inverse_threshold, clear_bound, above_bound, micro_ohms_of, is_clear_by, ohms_above_by, interval_test}
+use Rattle.band_subdivision.specs.IntervalTest.{inverse_threshold, clear_bound, above_bound, micro_ohms_of, is_clear_by, ohms_above_by, elimination_test}
+use Rattle.band_subdivision.specs.Levels.{Levels, AreScanLevels, orders, in_ohms_of}
 use Rattle.admittance_box.specs.HeldMatrix.{HoldsReduced}
-use Rattle.band_subdivision.specs.Truth.{millionths, orders, scanned_by, IsTruePeak, IntervalTestIsSound}
-use Rattle.band_subdivision.specs.declared.interval_test.ScanLevels.{ScanLevels}
+use Rattle.band_subdivision.specs.Truth.{millionths, scanned_by, IsTruePeak, EliminationTestIsSound}
 use Rattle.band_subdivision.proofs.Comparisons.{clear_by, not_clear_by, ohms_by, ohms_scaled}
-use Rattle.band_subdivision.proofs.LevelValues.{units, millionth, natural, square_below, within_square, square_over, apart_natural, scaled_below, scaled_above, held_above, held_below, millionths_are, power_apart, power_natural, inverse_natural, threshold_inverse, ohms_below}
+use Rattle.band_subdivision.proofs.LevelValues.{threshold_at, units, millionth, natural, square_below, within_square, square_over, apart_natural, scaled_below, scaled_above, held_above, held_below, millionths_are, power_apart, power_natural, inverse_natural, threshold_inverse, ohms_below}
+use Rattle.band_subdivision.proofs.Lifts.{at_most_along, less_unless, clear_with, peak_with}
 use Rattle.band_subdivision.proofs.TestSteps.{high_positive}
 open complex_numbers use {nought, inverse}
 
@@ -56,7 +57,7 @@ clear_parts (Some b) (Some y) h = record { number = b; held = y; is_bound = refl
 clear_parts (Some b) None h = absurd (cc)
 clear_parts None y h = absurd (cc)
 
-pub record IsAboveBy (scale : ℕ) (levels : ScanLevels) (bound : Option ℤ) (reduced : Option Rectangle) (ohms : ℤ) : Type 0 where
+pub record IsAboveBy (scale : ℕ) (levels : Levels) (bound : Option ℤ) (reduced : Option Rectangle) (ohms : ℤ) : Type 0 where
   pub number : ℤ
   pub held : Rectangle
   pub is_bound : bound ≡ Some number
@@ -70,7 +71,7 @@ both_true true true v ohms h = (refl, refl, cc)
 both_true true false v ohms h = absurd (cc)
 both_true false t v ohms h = absurd (cc)
 
-pub above_parts : (scale : ℕ) (levels : ScanLevels) (bound : Option ℤ) (reduced : Option Rectangle) (ohms : ℤ) → ohms_above_by scale levels bound reduced ≡ Some ohms → IsAboveBy scale levels bound reduced ohms
+pub above_parts : (scale : ℕ) (levels : Levels) (bound : Option ℤ) (reduced : Option Rectangle) (ohms : ℤ) → ohms_above_by scale levels bound reduced ≡ Some ohms → IsAboveBy scale levels bound reduced ohms
 above_parts scale levels (Some b) (Some y) ohms h =
     let parts = both_true (nat_lt (high_square_sum y) (unsigned_abs b * unsigned_abs b)) (nat_lt 0 (low_square_sum y)) _ ohms h in
     record { number = b; held = y; is_bound = refl; is_held = refl; most = lt_true _ _ parts.0; some = lt_true _ _ parts.1; is_ohms = parts.2 }
@@ -88,14 +89,14 @@ floor_sign : (z : ℤ) (k : ℕ) → pos 0 ≤ℤ z → pos 0 ≤ℤ floor_div z
 floor_sign (pos n) k h = omega (arith, ints)
 floor_sign (negsuc n) k h = absurd (omega (arith, ints))
 
-above_inverse : (scale : ℕ) (levels : ScanLevels) (number : ℤ) → clear_bound scale levels ≡ Some number → times (inverse_threshold levels) (units scale) ≼ whole (pos (unsigned_abs number))
+above_inverse : (scale : ℕ) (levels : Levels) (number : ℤ) → clear_bound scale levels ≡ Some number → times (inverse_threshold levels) (units scale) ≼ whole (pos (unsigned_abs number))
 unfolding clear_bound
 above_inverse scale levels number e =
     let v = inverse_threshold levels in
     let is : number ≡ ceil_scaled_of v scale = end_is number _ (sym e) in
     scaled_below v scale (unsigned_abs number) number (rw is (ceil_at_least scale v v (same_value v))) (size_at_least number)
 
-below_inverse : (scale : ℕ) (levels : ScanLevels) (number : ℤ) → above_bound scale levels ≡ Some number → whole (pos (unsigned_abs number)) ≼ times (inverse_threshold levels) (units scale)
+below_inverse : (scale : ℕ) (levels : Levels) (number : ℤ) → above_bound scale levels ≡ Some number → whole (pos (unsigned_abs number)) ≼ times (inverse_threshold levels) (units scale)
 unfolding above_bound
 below_inverse scale levels number e =
     let v = inverse_threshold levels in
@@ -108,13 +109,6 @@ below_inverse scale levels number e =
     times_sign (negsuc k) n h = absurd (omega (arith, ints))
 
 -- ---- one order
-at_most_along : (x y z : Ratio) → z ≈ y → x ≼ y → x ≼ z
-at_most_along x y z e h =
-    (at_most_is x z).1 (ratio_order.along (linear ratio_ring (x ∷ y ∷ z ∷ []) (weigh ratio_ring (opposite (whole (pos 1))) e) (search reads depth 40 fits 4000) none_left) ((at_most_is x y).0 h))
-
-less_unless : (x y : Ratio) → ¬ (y ≼ x) → x ≺ y
-less_unless x y h = record { cross = by_lt_z (x.num *ℤ den y) (y.num *ℤ den x) (λ l. l) (λ l. absurd (h (record { cross = l }))) }
-
 -- a size that is at least a number above 0 isn't zero
 apart_held : (low scale : ℕ) (y : Complex) → 0 < low → whole (pos low) ≼ times (square_size y) (times (units scale) (units scale)) → ¬ (complex_numbers.◌≈◌ y nought)
 apart_held low scale y some held e =
@@ -127,13 +121,10 @@ apart_held low scale y some held e =
     let most : pos low ≤ℤ pos 0 = rw num-whole at (opposite_out l less) in
     omega (arith, ints)
 
-abbrev threshold_at : ScanLevels → Order → Ratio
-threshold_at levels h = per_unit (flat (millionths levels.threshold)) (millionths levels.kv) (millionths levels.mva) h
-
-inverse_scaled : (scale : ℕ) (levels : ScanLevels) → NotNegative (times (inverse_threshold levels) (units scale))
+inverse_scaled : (scale : ℕ) (levels : Levels) → NotNegative (times (inverse_threshold levels) (units scale))
 inverse_scaled scale levels = ratio_order.product (inverse_natural levels) (natural (2 ^ scale))
 
-cleared_at : (scale : ℕ) (levels : ScanLevels) (network : Network) (h : Order) (node : ℕ) (number : ℤ) (held : Rectangle) → AreScanLevels levels → HoldsReduced scale network h node held
+cleared_at : (scale : ℕ) (levels : Levels) (network : Network) (h : Order) (node : ℕ) (number : ℤ) (held : Rectangle) → AreScanLevels levels → HoldsReduced scale network h node held
     → clear_bound scale levels ≡ Some number → unsigned_abs number * unsigned_abs number ≤ low_square_sum held → IsClearedAt network h node (threshold_at levels h)
 cleared_at scale levels network h node number held in_range exact bound least =
     let n = unsigned_abs number in
@@ -144,13 +135,13 @@ cleared_at scale levels network h node number held in_range exact bound least =
     (above_inverse scale levels number bound) (square_below n low least) (held_above scale low exact.y (low_square_bound scale held exact.y exact.held)))
 
 -- whole micro-orders of a box of one order
-micro_is_order : (at : ℕ) → IsTestable at at → IsOrder (micro at)
-micro_is_order at h = record { n = omega (arith, h.above); d = omega arith }
+pub micro_is_order : (from at : ℕ) → IsTestable from at at → IsOrder (micro at)
+micro_is_order from at h = record { n = omega (arith, h.above); d = omega arith }
 
-micro_inside : (at : ℕ) → LiesIn (micro at) (orders at at)
+pub micro_inside : (at : ℕ) → LiesIn (micro at) (orders at at)
 micro_inside at = record { low = omega arith; high = omega arith }
 
-module _ (scale : ℕ) (levels : ScanLevels) (network : Network) (node at : ℕ) (number : ℤ) (held : Rectangle) (in_range : AreScanLevels levels)
+module _ (scale : ℕ) (levels : Levels) (network : Network) (node at : ℕ) (number : ℤ) (held : Rectangle) (in_range : AreScanLevels levels)
     (exact : HoldsReduced scale network (micro at) node held) (bound : above_bound scale levels ≡ Some number)
     (most : high_square_sum held < unsigned_abs number * unsigned_abs number) (some : 0 < low_square_sum held) where
   reduced_apart : ¬ (complex_numbers.◌≈◌ exact.y nought)
@@ -199,19 +190,21 @@ module _ (scale : ℕ) (levels : ScanLevels) (network : Network) (node at : ℕ)
       natural_millionths : (n : ℕ) → NotNegative (millionths (pos n))
       natural_millionths n = record { value = n; is = refl }
 
-  peak_at : IsTestable at at → IsPeak network node (flat (millionths levels.threshold)) (millionths levels.kv) (millionths levels.mva) (orders at at) at (micro_ohms_of scale levels (high_square_sum held))
+  peak_at : (from : ℕ) → IsTestable from at at → IsPeak network node (flat (in_ohms_of levels.threshold)) (millionths levels.kv) (millionths levels.mva) (orders at at) at (micro_ohms_of scale levels (high_square_sum held))
   unfolding peak_there
-  peak_at testable = record { is_order = micro_is_order at testable; inside = micro_inside at; there = peak_there; ohms = ohms_there }
+  peak_at from testable = record { is_order = micro_is_order from at testable; inside = micro_inside at; there = peak_there; ohms = ohms_there }
 
-pub test_is_sound : IntervalTestIsSound
-unfolding interval_test
-test_is_sound scale levels reduced network node in_range reduces = record {
+pub test_is_sound : EliminationTestIsSound
+unfolding elimination_test
+test_is_sound scale from threshold kv mva levels reduced network node of reduces = record {
   clear = λ lo hi testable passed h is_order inside.
-      let parts = clear_parts (clear_bound scale levels) (reduced lo hi) passed in
-      cleared_at scale levels network h node parts.number parts.held in_range (reduces.at_each lo hi parts.held h testable parts.is_held is_order inside) parts.is_bound parts.least;
+      let parts = clear_parts (clear_bound scale (levels lo hi)) (reduced lo hi) passed in
+      clear_with from threshold kv mva levels of network node lo hi h testable is_order inside
+      (cleared_at scale (levels lo hi) network h node parts.number parts.held (of.in_range lo hi testable) (reduces.at_each lo hi parts.held h testable parts.is_held is_order inside) parts.is_bound parts.least);
   above = λ at ohms testable passed.
-      let parts = above_parts scale levels (above_bound scale levels) (reduced at at) ohms passed in
-      let exact = reduces.at_each at at parts.held (micro at) testable parts.is_held (micro_is_order at testable) (micro_inside at) in
-      subst (λ o. IsTruePeak (scanned_by levels network node) at at at o) (sym parts.is_ohms)
-      (peak_at scale levels network node at parts.number parts.held in_range exact parts.is_bound parts.most parts.some testable);
+      let parts = above_parts scale (levels at at) (above_bound scale (levels at at)) (reduced at at) ohms passed in
+      let exact = reduces.at_each at at parts.held (micro at) testable parts.is_held (micro_is_order from at testable) (micro_inside at) in
+      subst (λ o. IsTruePeak (scanned_by threshold kv mva network node) at at at o) (sym parts.is_ohms)
+      (peak_with from threshold kv mva levels of network node at _ testable
+      (peak_at scale (levels at at) network node at parts.number parts.held (of.in_range at at testable) exact parts.is_bound parts.most parts.some from testable));
 }

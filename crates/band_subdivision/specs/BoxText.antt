@@ -1,10 +1,11 @@
 -- Which boxes a report can write.
-use Rattle.std.specs.Prelude.{ℕ, ◌≤◌, ◌<◌, ℤ, Option, Some, None}
+use Rattle.std.specs.Prelude.{ℕ, ◌≤◌, ◌<◌, ℤ, List, Option, Some, None}
 use Rattle.std.specs.List.{AllByRecursion}
-use Rattle.complex_interval.specs.Rectangles.{Rectangle}
-use Rattle.band_subdivision.specs.Boxes.{Widths, boxes_of}
-use Rattle.band_subdivision.specs.IntervalTest.{AreScanLevels, interval_test}
-use Rattle.band_subdivision.specs.declared.interval_test.ScanLevels.{ScanLevels}
+use Rattle.exact_algebra.specs.Ratio.{Ratio}
+use Rattle.network_theory.specs.Network.{Network}
+use Rattle.band_subdivision.specs.Boxes.{IsTestable, Widths, boxes_of}
+use Rattle.band_subdivision.specs.Levels.{AreScanLevels}
+use Rattle.band_subdivision.specs.PairTest.{Asked, pair_test}
 use Rattle.scan_report.specs.Rows.{IsOhms}
 use Rattle.scan_report.specs.declared.boxes.Kind.{Kind}
 use Rattle.scan_report.specs.declared.boxes.Kind.TheVariants.{Cleared, Peak, Undecided}
@@ -20,6 +21,8 @@ ohms_of_kind Undecided = None
 abbrev pub HasText : BoxRow → Type 0
 HasText row = IsOhms (ohms_of_kind row.kind)
 
--- a report can write each box of an interval test
+-- a report can write each box of the interval test of a pair
 abbrev pub BoxesHaveText : Type 0
-BoxesHaveText = (scale : ℕ) (levels : ScanLevels) (reduced : ℕ → ℕ → Option Rectangle) (widths : Widths) (lo hi : ℕ) → scale ≤ 48 → AreScanLevels levels → 1 ≤ widths.finest → lo < hi → AllByRecursion HasText (boxes_of (interval_test scale levels reduced) widths lo hi)
+BoxesHaveText =
+    (scale from : ℕ) (asked : Asked) (low high : Network) (ordering : List ℕ) (e : Ratio) (widths : Widths) (lo hi : ℕ) → scale ≤ 48 → ((at : ℕ) → IsTestable from at at → AreScanLevels (asked.levels at at)) → 1 ≤ widths.finest → lo < hi → IsTestable from lo hi
+    → AllByRecursion HasText (boxes_of (pair_test scale asked low high ordering e) widths lo hi)

@@ -13,9 +13,10 @@ pub record BoxTest : Type 0 where
 abbrev pub above_at : BoxTest → ℕ → Option ℤ
 above_at test at = test.above at at
 
--- a box of orders above 0, in micro-orders
-pub record IsTestable (lo hi : ℕ) : Type 0 where
+-- a box of orders above 0, in micro-orders, that begins at this order or a higher one
+pub record IsTestable (from lo hi : ℕ) : Type 0 where
   pub above : 1 ≤ lo
+  pub begins : from ≤ lo
   pub ordered : lo ≤ hi
 
 -- the widths down to which boxes are split, and from which peaks are named

@@ -1,34 +1,26 @@
--- The interval test of one box of orders, by the reduced admittance of the driven node.
+-- The elimination part of the interval test of a box of orders: by the reduced admittance of the driven node.
 use Rattle.std.specs.Prelude.{ℕ, ◌*◌, ◌/◌, ◌^◌, ℤ, pos, ◌*ℤ◌, unsigned_abs, Bool, false, ◌&&◌, nat_le, nat_lt, if◌then◌else◌, Option, Some, None}
-use Rattle.exact_algebra.specs.Ratio.{Ratio, over}
+use Rattle.exact_algebra.specs.Ratio.{Ratio, den, over}
 use Rattle.exact_fraction.specs.Scaled.{end_of, floor_scaled_of, ceil_scaled_of}
 use Rattle.exact_fraction.specs.Root.{root_ceil_of}
 use Rattle.complex_interval.specs.Rectangles.{Rectangle, low_square_sum, high_square_sum}
-use Rattle.study_model.specs.Range.{IsIn}
-use Rattle.study_model.specs.declared.range.TheConstants.Range.{ABOVE_ZERO, BUS_KV, BASE_MVA}
 use Rattle.band_subdivision.specs.Boxes.{BoxTest}
-use Rattle.band_subdivision.specs.declared.interval_test.ScanLevels.{ScanLevels}
-
--- in the ranges of a study
-pub record AreScanLevels (levels : ScanLevels) : Type 0 where
-  pub threshold : IsIn ABOVE_ZERO levels.threshold
-  pub kv : IsIn BUS_KV levels.kv
-  pub mva : IsIn BASE_MVA levels.mva
+use Rattle.band_subdivision.specs.Levels.{Levels}
 
 -- 1/T = v²/(threshold·s), for the threshold T per unit: the millionths cancel
-unfoldable pub inverse_threshold : ScanLevels → Ratio
-inverse_threshold levels = over (levels.kv *ℤ levels.kv) (unsigned_abs (levels.threshold *ℤ levels.mva))
+unfoldable pub inverse_threshold : Levels → Ratio
+inverse_threshold levels = over (levels.kv *ℤ levels.kv *ℤ den levels.threshold) (unsigned_abs (levels.threshold.num *ℤ levels.mva))
 
 -- 1/T in units of 1 / 2^scale, rounded up
-unfoldable pub clear_bound : ℕ → ScanLevels → Option ℤ
+unfoldable pub clear_bound : ℕ → Levels → Option ℤ
 clear_bound scale levels = end_of (ceil_scaled_of (inverse_threshold levels) scale)
 
 -- the same, rounded down
-unfoldable pub above_bound : ℕ → ScanLevels → Option ℤ
+unfoldable pub above_bound : ℕ → Levels → Option ℤ
 above_bound scale levels = end_of (floor_scaled_of (inverse_threshold levels) scale)
 
 -- v²/s ohms over a size whose square is at most `high` in units of 1 / 4^scale: in micro-ohms, rounded down
-unfoldable pub micro_ohms_of : ℕ → ScanLevels → ℕ → ℕ
+unfoldable pub micro_ohms_of : ℕ → Levels → ℕ → ℕ
 micro_ohms_of scale levels high = unsigned_abs levels.kv * unsigned_abs levels.kv * 2 ^ scale / (unsigned_abs levels.mva * root_ceil_of high)
 
 -- each number of the rectangle is at least the bound in size
@@ -42,14 +34,14 @@ abbrev pub is_above_by : ℤ → Rectangle → Bool
 is_above_by bound y = nat_lt (high_square_sum y) (unsigned_abs bound * unsigned_abs bound) && nat_lt 0 (low_square_sum y)
 
 -- the micro-ohms of such a rectangle
-abbrev pub ohms_above_by : ℕ → ScanLevels → Option ℤ → Option Rectangle → Option ℤ
+abbrev pub ohms_above_by : ℕ → Levels → Option ℤ → Option Rectangle → Option ℤ
 ohms_above_by scale levels (Some bound) (Some y) = if is_above_by bound y then Some (pos (micro_ohms_of scale levels (high_square_sum y))) else None
 ohms_above_by scale levels (Some bound) None = None
 ohms_above_by scale levels None y = None
 
--- the test of boxes by their reduced admittances: the impedance is within where each admittance is at least 1/T, and above where each is less and other than zero
-unfoldable pub interval_test : ℕ → ScanLevels → (ℕ → ℕ → Option Rectangle) → BoxTest
-interval_test scale levels reduced = record {
-  clear = λ lo hi. is_clear_by (clear_bound scale levels) (reduced lo hi);
-  above = λ lo hi. ohms_above_by scale levels (above_bound scale levels) (reduced lo hi);
+-- the test of boxes by their levels and reduced admittances: the impedance is within where each admittance is at least 1/T, and above where each is less and other than zero
+unfoldable pub elimination_test : ℕ → (ℕ → ℕ → Levels) → (ℕ → ℕ → Option Rectangle) → BoxTest
+elimination_test scale levels reduced = record {
+  clear = λ lo hi. is_clear_by (clear_bound scale (levels lo hi)) (reduced lo hi);
+  above = λ lo hi. ohms_above_by scale (levels lo hi) (above_bound scale (levels lo hi)) (reduced lo hi);
 }

@@ -3,7 +3,10 @@ pub mod Stack
 pub mod Left
 pub mod Cover
 pub mod Split
+pub mod Levels
+pub mod Parts
 pub mod IntervalTest
+pub mod InverseTest
 pub mod PairTest
 pub mod ScanSpec
 pub mod Testing

@@ -1,18 +1,24 @@
 -- The test of boxes of a pair of networks that is driven at a node, with an extra susceptance there.
-use Rattle.std.specs.Prelude.{ℕ, List, pos, Option, Some, int_lt, if◌then◌else◌}
+use Rattle.std.specs.Prelude.{ℕ, ◌-◌, Bool, List, length, pos, Option, Some, None, int_lt, if◌then◌else◌}
 use Rattle.std.specs.Result.{result_ok}
 use Rattle.exact_algebra.specs.Ratio.{Ratio}
 use Rattle.complex_interval.specs.Ends.{Ends, range_ends, add_ends, mul_ends}
 use Rattle.complex_interval.specs.Rectangles.{Rectangle}
 use Rattle.network_theory.specs.Network.{Network}
 use Rattle.network_theory.specs.Extra.{with_shunt}
+use Rattle.plain_elimination.specs.Matrix.{entry, set_entry}
 use Rattle.plain_elimination.specs.Rectangles.{reduce_rectangles}
+use Rattle.certified_inverse.specs.Certificate.{enclosure}
+use Rattle.certified_inverse.specs.declared.outcome.InverseOutcome.{InverseOutcome}
+use Rattle.certified_inverse.specs.declared.outcome.InverseOutcome.TheVariants.{OutOfRange}
 use Rattle.admittance_box.specs.BoxMatrix.{box_matrix}
 use Rattle.admittance_box.specs.Orders.{order_ends}
 use Rattle.admittance_box.specs.Steps.{◌>>=◌}
 use Rattle.band_subdivision.specs.Boxes.{BoxTest}
-use Rattle.band_subdivision.specs.IntervalTest.{interval_test}
-use Rattle.band_subdivision.specs.declared.interval_test.ScanLevels.{ScanLevels}
+use Rattle.band_subdivision.specs.IntervalTest.{elimination_test}
+use Rattle.band_subdivision.specs.InverseTest.{inverse_test}
+use Rattle.band_subdivision.specs.Levels.{Levels}
+use Rattle.band_subdivision.specs.Parts.{either, where_near}
 
 -- y with H·b added to its imaginary part, for the interval H of the orders from lo to hi and that of a susceptance, b
 abbrev pub with_extra : ℕ → Option Ends → ℕ → ℕ → Rectangle → Option Rectangle
@@ -22,17 +28,44 @@ with_extra s susceptance lo hi y = do
   im ← add_ends y.im more
   Some (record { re = y.re; im = im })
 
--- the reduced value of the pair's matrix over the orders from lo to hi, with the driven node last in the node ordering
-abbrev pub reduced_value : ℕ → Network → Network → List ℕ → ℕ → ℕ → Option Rectangle
-reduced_value s low high ordering lo hi = result_ok (box_matrix s low high ordering lo hi) >>= (λ rows. result_ok (reduce_rectangles s rows))
+-- the pair's matrix over the orders from lo to hi, with the driven node last in the node ordering
+abbrev pub pair_rows : ℕ → Network → Network → List ℕ → ℕ → ℕ → Option (List (List Rectangle))
+pair_rows s low high ordering lo hi = result_ok (box_matrix s low high ordering lo hi)
 
--- this value with H·e added to its imaginary part
+-- the reduced value of these rows, with H·b added to its imaginary part
+abbrev pub reduced_rows : ℕ → Option Ends → ℕ → ℕ → List (List Rectangle) → Option Rectangle
+reduced_rows s susceptance lo hi rows = result_ok (reduce_rectangles s rows) >>= with_extra s susceptance lo hi
+
+-- the reduced admittance of the driven node
 unfoldable pub pair_value : ℕ → Network → Network → List ℕ → Ratio → ℕ → ℕ → Option Rectangle
-pair_value s low high ordering e lo hi = reduced_value s low high ordering lo hi >>= with_extra s (range_ends s e e) lo hi
+pair_value s low high ordering e lo hi = pair_rows s low high ordering lo hi >>= reduced_rows s (range_ends s e e) lo hi
 
--- the interval test by this value
-abbrev pub pair_test : ℕ → ScanLevels → Network → Network → List ℕ → Ratio → BoxTest
-pair_test s levels low high ordering e = interval_test s levels (pair_value s low high ordering e)
+-- these rows with H·b added to the imaginary part of the last diagonal entry
+abbrev pub with_last : ℕ → Option Ends → ℕ → ℕ → List (List Rectangle) → Option (List (List Rectangle))
+with_last s susceptance lo hi rows = do
+  y ← entry rows (length rows - 1) (length rows - 1)
+  sum ← with_extra s susceptance lo hi y
+  Some (set_entry rows (length rows - 1) (length rows - 1) sum)
+
+-- the enclosure of the last entry of the solution for the unit right side there, if there are rows
+abbrev pub last_enclosure : ℕ → Option (List (List Rectangle)) → InverseOutcome
+last_enclosure s None = OutOfRange
+last_enclosure s (Some rows) = enclosure s (length rows - 1) rows
+
+-- the enclosed impedance of the driven node
+unfoldable pub pair_enclosure : ℕ → Network → Network → List ℕ → Ratio → ℕ → ℕ → InverseOutcome
+pair_enclosure s low high ordering e lo hi = last_enclosure s (pair_rows s low high ordering lo hi >>= with_last s (range_ends s e e) lo hi)
+
+-- what is asked of a test of boxes: the levels of each box, whether the inverse part is asked too, and down from which width
+pub record Asked : Type 0 where
+  pub levels : ℕ → ℕ → Levels
+  pub both : Bool
+  pub locate : ℕ
+
+-- the interval test: its elimination part, or near peaks its inverse part
+abbrev pub pair_test : ℕ → Asked → Network → Network → List ℕ → Ratio → BoxTest
+pair_test s asked low high ordering e =
+    either (elimination_test s asked.levels (pair_value s low high ordering e)) (where_near asked.both asked.locate (inverse_test s asked.levels (pair_enclosure s low high ordering e)))
 
 -- a network that is scanned with an extra susceptance: it has one more Shunt of it from the driven node to ground, where it is above 0
 abbrev pub scanned_network : Network → ℕ → Ratio → Network

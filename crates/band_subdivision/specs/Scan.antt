@@ -7,7 +7,7 @@ use Rattle.admittance_box.specs.HeldMatrix.{CanAssemble}
 use Rattle.band_subdivision.specs.Boxes.{BoxTest, boxes_of}
 use Rattle.band_subdivision.specs.Cover.{span_of}
 use Rattle.band_subdivision.specs.PairTest.{pair_test}
-use Rattle.band_subdivision.specs.ScanSpec.{levels_of, widths_of, IsScanSpec, nothing}
+use Rattle.band_subdivision.specs.ScanSpec.{asked_of, widths_of, IsScanSpec, nothing}
 use Rattle.band_subdivision.specs.Stack.{Band, IsStack}
 use Rattle.band_subdivision.specs.Testing.{Testing}
 use Rattle.band_subdivision.specs.declared.scan_spec.ScanSpec.{ScanSpec}
@@ -25,11 +25,11 @@ pub record Scanning : Type 0 where
 
 -- the scan's test of boxes, at a scale of intervals
 abbrev pub test_of : ℕ → Scanning → BoxTest
-test_of scale s = pair_test scale (levels_of s.spec) s.low s.high s.ordering s.extra
+test_of scale s = pair_test scale (asked_of s.spec) s.low s.high s.ordering s.extra
 
 -- all boxes of the scan's band, at an extra susceptance
 abbrev pub whole_list : ℕ → Scanning → Ratio → List BoxRow
-whole_list scale s e = boxes_of (pair_test scale (levels_of s.spec) s.low s.high s.ordering e) (widths_of s.spec) s.spec.from s.spec.to
+whole_list scale s e = boxes_of (pair_test scale (asked_of s.spec) s.low s.high s.ordering e) (widths_of s.spec) s.spec.from s.spec.to
 
 -- a new scan of this pair, which has its whole list of boxes still to come, without an extra susceptance
 pub record IsScanOf (scale : ℕ) (low high : Network) (driven : ℕ) (spec : ScanSpec) (s : Scanning) : Type 0 where
@@ -47,4 +47,4 @@ pub record IsScan (t : Testing) (bands : List Band) : Type 0 where
   pub spec : IsScanSpec t.spec
   pub ready : CanAssemble t.low t.high t.driven t.ordering
   pub natural : pos 0 ≤ℤ t.extra.num
-  pub stack : IsStack t.spec.finest bands
+  pub stack : IsStack t.spec.from t.spec.finest bands

@@ -30,12 +30,12 @@ abbrev pub top_width : List Band → ℕ
 top_width [] = 0
 top_width (b ∷ bs) = b.hi - b.lo
 
--- each band is above its beginning and from 0.1 to 100, and one on n others is no wider than 2^(16-n) times finest
-abbrev pub AreLevels : ℕ → List Band → Type 0
-AreLevels finest [] = Unit {0}
-AreLevels finest (b ∷ bs) = (b.lo < b.hi) × (b.hi ≤ b.lo + 2 ^ (16 - length bs) * finest) × IsTestable b.lo b.hi × AreLevels finest bs
+-- each band is above its beginning, may be tested from an order on, and one on n others is no wider than 2^(16-n) times finest
+abbrev pub AreLevels : ℕ → ℕ → List Band → Type 0
+AreLevels from finest [] = Unit {0}
+AreLevels from finest (b ∷ bs) = (b.lo < b.hi) × (b.hi ≤ b.lo + 2 ^ (16 - length bs) * finest) × IsTestable from b.lo b.hi × AreLevels from finest bs
 
-pub record IsStack (finest : ℕ) (bands : List Band) : Type 0 where
+pub record IsStack (from finest : ℕ) (bands : List Band) : Type 0 where
   pub split : 1 ≤ finest
   pub fits : length bands ≤ 17
-  pub levels : AreLevels finest bands
+  pub levels : AreLevels from finest bands

@@ -1,18 +1,24 @@
 -- What is true of the boxes of a scan.
-use Rattle.std.specs.Prelude.{◌≡◌, ℕ, ◌-◌, ◌^◌, ◌≤◌, ◌<◌, ℤ, pos, negsuc, true, false, Option, Some}
+use Rattle.std.specs.Prelude.{◌≡◌, ℕ, ◌-◌, ◌^◌, ◌≤◌, ◌<◌, ℤ, pos, negsuc, Bool, true, false, Option, Some}
 use Rattle.std.specs.List.{AllByRecursion}
 use Rattle.exact_algebra.specs.Ratio.{Ratio, over}
-use Rattle.complex_interval.specs.Rectangles.{Rectangle}
+use Rattle.exact_algebra.specs.Complex.{Complex, complex_difference, complex_over}
+use Rattle.complex_interval.specs.Rectangles.{Rectangle, IsAtLeastSize}
+use Rattle.certified_inverse.specs.declared.outcome.InverseOutcome.{InverseOutcome}
+use Rattle.certified_inverse.specs.declared.outcome.InverseOutcome.TheVariants.{Enclosed}
 use Rattle.network_theory.specs.Order.{Order, IsOrder}
-use Rattle.network_theory.specs.Box.{Box, LiesIn}
+use Rattle.network_theory.specs.Box.{LiesIn}
 use Rattle.network_theory.specs.Network.{Network}
-use Rattle.network_theory.specs.Threshold.{Threshold, flat}
+use Rattle.network_theory.specs.DrivingPoint.{IsDrivingPoint}
+use Rattle.network_theory.specs.Threshold.{Threshold}
 use Rattle.network_theory.specs.Scanned.{IsCleared, IsPeak}
 use Rattle.admittance_box.specs.HeldMatrix.{HoldsReduced}
 use Rattle.band_subdivision.specs.Boxes.{BoxTest, above_at, IsTestable, Widths, boxes_of}
 use Rattle.band_subdivision.specs.Split.{NamesNoPeak}
-use Rattle.band_subdivision.specs.IntervalTest.{AreScanLevels, interval_test}
-use Rattle.band_subdivision.specs.declared.interval_test.ScanLevels.{ScanLevels}
+use Rattle.band_subdivision.specs.IntervalTest.{elimination_test}
+use Rattle.band_subdivision.specs.InverseTest.{inverse_test}
+use Rattle.band_subdivision.specs.Levels.{Levels, AreLevelsOf, orders}
+use Rattle.band_subdivision.specs.Parts.{either, where_near}
 use Rattle.scan_report.specs.declared.boxes.Kind.{Kind}
 use Rattle.scan_report.specs.declared.boxes.Kind.TheVariants.{Cleared, Peak, Undecided}
 use Rattle.scan_report.specs.declared.boxes.BoxRow.{BoxRow}
@@ -29,13 +35,9 @@ pub record Scanned : Type 0 where
 abbrev pub millionths : ℤ → Ratio
 millionths d = over d (10 ^ 6)
 
--- a scan with one threshold for every order
-abbrev pub scanned_by : ScanLevels → Network → ℕ → Scanned
-scanned_by levels network node = record { network = network; node = node; threshold = flat (millionths levels.threshold); kv = millionths levels.kv; mva = millionths levels.mva }
-
--- the orders from lo to hi
-abbrev pub orders : ℕ → ℕ → Box
-orders lo hi = record { lo = lo; hi = hi }
+-- a scan with base values of so many millionths
+abbrev pub scanned_by : Threshold → ℤ → ℤ → Network → ℕ → Scanned
+scanned_by threshold kv mva network node = record { network = network; node = node; threshold = threshold; kv = millionths kv; mva = millionths mva }
 
 -- the impedance exists and is within the threshold at every order from lo to hi
 abbrev pub IsClearedBox : Scanned → ℕ → ℕ → Type 0
@@ -62,19 +64,42 @@ IsTrueKind s test widths lo hi Undecided = IsUndecided test widths lo hi
 abbrev pub IsTrueRow : Scanned → BoxTest → Widths → BoxRow → Type 0
 IsTrueRow s test widths row = IsTrueKind s test widths row.lo row.hi row.kind
 
--- what a test says of a box is true
-pub record IsSound (s : Scanned) (test : BoxTest) : Type 0 where
-  pub clear : (lo hi : ℕ) → IsTestable lo hi → test.clear lo hi ≡ true → IsClearedBox s lo hi
-  pub above : (at : ℕ) (micro_ohms : ℤ) → IsTestable at at → above_at test at ≡ Some micro_ohms → IsTruePeak s at at at micro_ohms
+-- what a test says of a box from an order on is true
+pub record IsSound (from : ℕ) (s : Scanned) (test : BoxTest) : Type 0 where
+  pub clear : (lo hi : ℕ) → IsTestable from lo hi → test.clear lo hi ≡ true → IsClearedBox s lo hi
+  pub above : (at : ℕ) (micro_ohms : ℤ) → IsTestable from at at → above_at test at ≡ Some micro_ohms → IsTruePeak s at at at micro_ohms
 
 -- where there is a reduced admittance over a box of orders, it holds the exact one at every order in it
-pub record ReducesTo (scale : ℕ) (reduced : ℕ → ℕ → Option Rectangle) (network : Network) (node : ℕ) : Type 0 where
-  pub at_each : (lo hi : ℕ) (held : Rectangle) (h : Order) → IsTestable lo hi → reduced lo hi ≡ Some held → IsOrder h → LiesIn h (orders lo hi) → HoldsReduced scale network h node held
+pub record ReducesTo (scale from : ℕ) (reduced : ℕ → ℕ → Option Rectangle) (network : Network) (node : ℕ) : Type 0 where
+  pub at_each : (lo hi : ℕ) (held : Rectangle) (h : Order) → IsTestable from lo hi → reduced lo hi ≡ Some held → IsOrder h → LiesIn h (orders lo hi) → HoldsReduced scale network h node held
 
--- the interval test is sound where the reduced admittances hold the exact ones
-abbrev pub IntervalTestIsSound : Type 0
-IntervalTestIsSound = (scale : ℕ) (levels : ScanLevels) (reduced : ℕ → ℕ → Option Rectangle) (network : Network) (node : ℕ) → AreScanLevels levels → ReducesTo scale reduced network node → IsSound (scanned_by levels network node) (interval_test scale levels reduced)
+-- the elimination part is sound where the reduced admittances hold the exact ones
+abbrev pub EliminationTestIsSound : Type 0
+EliminationTestIsSound =
+    (scale from : ℕ) (threshold : Threshold) (kv mva : ℤ) (levels : ℕ → ℕ → Levels) (reduced : ℕ → ℕ → Option Rectangle) (network : Network) (node : ℕ) → AreLevelsOf from threshold kv mva levels → ReducesTo scale from reduced network node
+    → IsSound from (scanned_by threshold kv mva network node) (elimination_test scale levels reduced)
+
+-- at an order the driving-point impedance exists, and lies within error/2^scale of (re + j im)/2^scale, in the sum of the sizes of both parts
+pub record IsImpedanceNear (scale : ℕ) (network : Network) (h : Order) (node : ℕ) (re im : ℤ) (error : ℕ) : Type 0 where
+  pub Z : Complex
+  pub exists : IsDrivingPoint network h node Z
+  pub near : IsAtLeastSize scale error (complex_difference Z (complex_over re im (2 ^ scale)))
+
+-- where there is an enclosure over a box of orders, it says this at every order in it
+pub record EnclosesImpedance (scale from : ℕ) (enclosed : ℕ → ℕ → InverseOutcome) (network : Network) (node : ℕ) : Type 0 where
+  pub at_each : (lo hi : ℕ) (re im : ℤ) (error : ℕ) (h : Order) → IsTestable from lo hi → enclosed lo hi ≡ Enclosed re im error → IsOrder h → LiesIn h (orders lo hi) → IsImpedanceNear scale network h node re im error
+
+-- the inverse part is sound where the enclosures hold the impedances
+abbrev pub InverseTestIsSound : Type 0
+InverseTestIsSound =
+    (scale from : ℕ) (threshold : Threshold) (kv mva : ℤ) (levels : ℕ → ℕ → Levels) (enclosed : ℕ → ℕ → InverseOutcome) (network : Network) (node : ℕ) → AreLevelsOf from threshold kv mva levels → EnclosesImpedance scale from enclosed network node
+    → IsSound from (scanned_by threshold kv mva network node) (inverse_test scale levels enclosed)
+
+-- a test that passes where one of two sound ones does is sound, and so is a sound one that is asked of some boxes alone
+pub record PartsAreSound : Type 0 where
+  pub either : (from : ℕ) (s : Scanned) (first second : BoxTest) → IsSound from s first → IsSound from s second → IsSound from s (either first second)
+  pub near : (from : ℕ) (s : Scanned) (asked : Bool) (locate : ℕ) (test : BoxTest) → IsSound from s test → IsSound from s (where_near asked locate test)
 
 -- by a sound test, what each box of a band says is true
 abbrev pub BoxesAreTrue : Type 0
-BoxesAreTrue = (s : Scanned) (test : BoxTest) (widths : Widths) (lo hi : ℕ) → IsSound s test → 1 ≤ widths.finest → widths.finest ≤ widths.locate → lo < hi → IsTestable lo hi → AllByRecursion (IsTrueRow s test widths) (boxes_of test widths lo hi)
+BoxesAreTrue = (from : ℕ) (s : Scanned) (test : BoxTest) (widths : Widths) (lo hi : ℕ) → IsSound from s test → 1 ≤ widths.finest → widths.finest ≤ widths.locate → lo < hi → IsTestable from lo hi → AllByRecursion (IsTrueRow s test widths) (boxes_of test widths lo hi)

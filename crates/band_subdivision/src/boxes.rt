@@ -11,21 +11,21 @@ use scan_report::Kind;
 
 /// The first of the middle, the low end and the high end that is above.
 fn peak<E: Enclosure>(test: &mut PairTest<E>, lo: u32, hi: u32) -> Option<Kind>
-    requires { IsTestable lo hi }
+    requires { IsTestable test.old.spec.from lo hi }
     ensures value { result ≡ peak_of (box_test E.SCALE test.old) lo hi None }
     ensures same { test.new ≡ test.old }
 {
     let middle = lo + (hi - lo) / 2;
-    if let Some(micro_ohms) = test.tested(middle, middle).micro_ohms {
+    if let Some(micro_ohms) = test.micro_ohms(middle, middle) {
         return Some(Kind::Peak {
             at: middle,
             micro_ohms,
         });
     }
-    if let Some(micro_ohms) = test.tested(lo, lo).micro_ohms {
+    if let Some(micro_ohms) = test.micro_ohms(lo, lo) {
         return Some(Kind::Peak { at: lo, micro_ohms });
     }
-    if let Some(micro_ohms) = test.tested(hi, hi).micro_ohms {
+    if let Some(micro_ohms) = test.micro_ohms(hi, hi) {
         return Some(Kind::Peak { at: hi, micro_ohms });
     }
     None
@@ -34,12 +34,12 @@ fn peak<E: Enclosure>(test: &mut PairTest<E>, lo: u32, hi: u32) -> Option<Kind>
 /// What becomes of a box: its kind, or nothing where it is to be split.
 #[tactic(auto, unfolding(crate::specs::Boxes::kind_of))]
 pub fn settle<E: Enclosure>(test: &mut PairTest<E>, lo: u32, hi: u32) -> Option<Kind>
-    requires { IsTestable lo hi }
+    requires { IsTestable test.old.spec.from lo hi }
     ensures value { result ≡ kind_of (box_test E.SCALE test.old) (widths_of test.old.spec) lo hi }
     ensures same { test.new ≡ test.old }
 {
     let spec = test.spec();
-    if test.tested(lo, hi).clear {
+    if test.is_clear(lo, hi) {
         return Some(Kind::Cleared);
     }
     if hi - lo <= spec.locate {

@@ -1,30 +1,19 @@
-// What an admittance over a box of orders says of the impedance.
+// The elimination part of the interval test: what an admittance over a box of orders says of the impedance.
 ghost use Rattle.std.specs.Prelude.{◌≡◌, pos, ◌*◌, ◌^◌, ◌≤◌, ◌<◌, ◌≤ℤ◌, unsigned_abs};
 ghost use Rattle.std.specs.Option.{option_map};
 ghost use Rattle.complex_interval.specs.Rect.{rectangle_of};
-ghost use Rattle.band_subdivision.specs.IntervalTest.{AreScanLevels, clear_bound, above_bound, inverse_threshold, micro_ohms_of, is_clear_by, ohms_above_by};
-ghost use Rattle.exact_fraction.specs.Fraction.{ratio_of};
+ghost use Rattle.band_subdivision.specs.IntervalTest.{clear_bound, above_bound, micro_ohms_of, is_clear_by, ohms_above_by};
+ghost use Rattle.band_subdivision.specs.Levels.{IsKept, levels_in};
 
+use crate::scan_levels::{ScanLevels, inverse_of, signed, size_of, unit_of};
 use complex_interval::{Enclosure, Rect};
-use exact_fraction::{Fraction, root_ceil};
-use fixed_decimal::Decimal;
-
-/// What a scan compares an impedance with, and its base values.
-#[derive(Clone, Copy)]
-pub struct ScanLevels {
-    /// The threshold, in ohms: in `Range::ABOVE_ZERO`.
-    pub threshold: Decimal,
-    /// The nominal voltage, in kV: in `Range::BUS_KV`.
-    pub kv: Decimal,
-    /// The base power, in MVA: in `Range::BASE_MVA`.
-    pub mva: Decimal,
-}
+use exact_fraction::root_ceil;
 
 /// 1/T in units of 1 / 2^SCALE, rounded up. None where it is out of range.
 #[tactic(auto, unfolding(crate::specs::IntervalTest::clear_bound))]
 pub fn bound_to_clear<E: Enclosure>(levels: &ScanLevels) -> Option<i64>
-    requires { AreScanLevels levels.now }
-    ensures { result ≡ clear_bound E.SCALE levels.now }
+    requires { IsKept levels.now }
+    ensures { result ≡ clear_bound E.SCALE (levels_in levels.now) }
 {
     inverse_of(levels).ceil_scaled(E::SCALE)
 }
@@ -32,21 +21,10 @@ pub fn bound_to_clear<E: Enclosure>(levels: &ScanLevels) -> Option<i64>
 /// 1/T in these units, rounded down. None where it is out of range.
 #[tactic(auto, unfolding(crate::specs::IntervalTest::above_bound))]
 pub fn bound_to_name<E: Enclosure>(levels: &ScanLevels) -> Option<i64>
-    requires { AreScanLevels levels.now }
-    ensures { result ≡ above_bound E.SCALE levels.now }
+    requires { IsKept levels.now }
+    ensures { result ≡ above_bound E.SCALE (levels_in levels.now) }
 {
     inverse_of(levels).floor_scaled(E::SCALE)
-}
-
-/// 1/T = v²/(threshold·s), for the threshold T per unit.
-fn inverse_of(levels: &ScanLevels) -> Fraction
-    requires { AreScanLevels levels.now }
-    ensures { ratio_of result ≡ inverse_threshold levels.now }
-{
-    let kv = size_of(levels.kv);
-    let top = signed(kv * kv);
-    let below = signed(size_of(levels.threshold) * size_of(levels.mva));
-    Fraction::new(top, below).unwrap()
 }
 
 /// Whether each number of the rectangle is at least the bound in size.
@@ -68,8 +46,8 @@ pub fn ohms_of<E: Enclosure>(
     bound: Option<i64>,
     reduced: Option<Rect<E>>,
 ) -> Option<i128>
-    requires { AreScanLevels levels.now }
-    ensures { result ≡ ohms_above_by E.SCALE levels.now bound (option_map (rectangle_of E.ends) reduced) }
+    requires { IsKept levels.now }
+    ensures { result ≡ ohms_above_by E.SCALE (levels_in levels.now) bound (option_map (rectangle_of E.ends) reduced) }
 {
     match bound {
         Some(bound) => match reduced {
@@ -96,36 +74,13 @@ fn square_of(x: i64) -> u128
     size * size
 }
 
-/// How many millionths a value is in size.
-fn size_of(value: Decimal) -> u128
-    ensures size { result ≡ unsigned_abs value }
-    ensures bound { result < 10 ^ 12 }
-{
-    value.millionths.unsigned_abs() as u128
-}
-
-fn signed(value: u128) -> i128
-    requires { value ≤ 2 ^ 120 }
-    ensures { result ≡ pos value }
-{
-    value as i128
-}
-
-fn unit_of(scale: u32) -> u128
-    requires { scale ≤ 48 }
-    ensures value { result ≡ 2 ^ scale }
-    ensures bound { result ≤ 2 ^ 48 }
-{
-    1_u128 << scale
-}
-
 /// v²/s ohms over the root of `high`, in micro-ohms.
 fn micro_ohms(scale: u32, levels: &ScanLevels, high: u128) -> i128
-    requires in_range { AreScanLevels levels.now }
+    requires in_range { IsKept levels.now }
     requires small { scale ≤ 48 }
     requires some { 0 < high }
     requires fits { high < 2 ^ 127 }
-    ensures { result ≡ pos (micro_ohms_of scale levels.now high) }
+    ensures { result ≡ pos (micro_ohms_of scale (levels_in levels.now) high) }
 {
     let kv = size_of(levels.kv);
     let below = size_of(levels.mva) * root_ceil(high) as u128;

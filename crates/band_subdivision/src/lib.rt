@@ -1,25 +1,37 @@
 // The boxes of a band of orders, one after another, by a test of boxes, and what they say of a network.
 #![tactic(auto)]
 
-ghost use Rattle.band_subdivision.specs.Truth.{IntervalTestIsSound, BoxesAreTrue};
+ghost use Rattle.band_subdivision.specs.Truth.{EliminationTestIsSound, InverseTestIsSound, PartsAreSound, BoxesAreTrue};
 ghost use Rattle.band_subdivision.specs.PairTruth.{PairTestIsSound};
 ghost use Rattle.band_subdivision.specs.BoxText.{BoxesHaveText};
 ghost use Rattle.band_subdivision.specs.WorkedBounds.{WorkedBounds};
 
 mod boxes;
 mod interval_test;
+mod inverse_test;
 mod pair_test;
 mod scan;
+mod scan_levels;
 mod scan_spec;
 mod stack;
 
-pub use interval_test::ScanLevels;
 pub use scan::Scan;
+pub use scan_levels::ScanLevels;
 pub use scan_spec::{ScanSpec, Tested};
 
-/// The interval test is sound where the reduced admittances hold the exact ones.
-pub fn interval_test_is_sound()
-    ensures law { IntervalTestIsSound }
+/// The elimination part is sound where the reduced admittances hold the exact ones.
+pub fn elimination_test_is_sound()
+    ensures law { EliminationTestIsSound }
+{}
+
+/// The inverse part is sound where the enclosures hold the impedances.
+pub fn inverse_test_is_sound()
+    ensures law { InverseTestIsSound }
+{}
+
+/// A test that is made of sound parts is sound.
+pub fn parts_are_sound()
+    ensures law { PartsAreSound }
 {}
 
 /// The test of a pair of networks is sound for every network between the two, with one more shunt of the extra

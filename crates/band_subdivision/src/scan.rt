@@ -1,5 +1,5 @@
 // A scan of a band of orders at a node of a network, or of a pair of networks.
-ghost use Rattle.std.specs.Prelude.{◌≡◌, pos, ◌≤◌, ◌≤ℤ◌, true, false, [], ◌∷◌, map, length, IfOk, IfSome, IfNone};
+ghost use Rattle.std.specs.Prelude.{◌≡◌, pos, ◌≤◌, ◌≤ℤ◌, true, [], ◌∷◌, map, length, Some, None, if◌then◌else◌, IfOk, IfSome, IfNone};
 ghost use Rattle.exact_fraction.specs.Fraction.{ratio_of};
 ghost use Rattle.network_theory.specs.Between.{IsPair};
 ghost use Rattle.network_theory.specs.Box.{Covers};
@@ -12,12 +12,15 @@ ghost use Rattle.band_subdivision.specs.Cover.{span_of};
 ghost use Rattle.band_subdivision.specs.PairTruth.{IsClearForEach, IsAboveForEach, IsTrueForEach};
 ghost use Rattle.band_subdivision.specs.Scan.{IsScanOf, test_of, whole_list};
 ghost use Rattle.band_subdivision.specs.ScanSpec.{IsScanSpec};
+ghost use Rattle.band_subdivision.specs.Testing.{inverse_size};
+ghost use Rattle.plain_elimination.specs.declared.limits.TheConstants.{MAX_SIZE};
 
 use crate::boxes::settle;
 use crate::pair_test::PairTest;
 use crate::scan_spec::{ScanSpec, Tested};
 use crate::stack::Stack;
 use admittance_box::Assembly;
+use certified_inverse::InverseBench;
 use complex_interval::Enclosure;
 use exact_fraction::Fraction;
 use net_branch::{Network, NodeId};
@@ -56,29 +59,47 @@ impl<E: Enclosure> Model for Scan<E> {
     ghost invariant = { λ s. IsScan s.test s.stack };
 }
 
-/// A scan with this assembly, this matrix and this bench, which has its whole band before it.
+/// A scan with this assembly, this matrix and these benches, which has its whole band before it.
 fn scan_by<E: Enclosure>(
     spec: ScanSpec,
     assembly: Assembly<E>,
     matrix: Matrix<E>,
     bench: SparseBench<E>,
+    inverse: Option<InverseBench<E>>,
 ) -> Scan<E>
     requires spec { IsScanSpec spec }
     requires ready { CanAssemble assembly.low assembly.high assembly.driven assembly.ordering }
     requires size { matrix.size ≡ length assembly.ordering }
     requires pattern { IsPattern assembly.ordering assembly.low.branches bench.size bench.places }
+    requires inverse { inverse ≡ inverse_size spec.both assembly.ordering }
     ensures { IsScanOf E.SCALE assembly.low assembly.high assembly.driven spec result }
 {
     let stack = Stack::new(spec.from, spec.to);
     Scan {
-        test: PairTest::new(spec, assembly, matrix, bench),
+        test: PairTest::new(spec, assembly, matrix, bench, inverse),
         stack,
+    }
+}
+
+/// A bench for inverses, where they are asked for.
+fn inverse_bench<E: Enclosure>(
+    alloc: Global,
+    both: bool,
+    size: u32,
+) -> Result<Option<InverseBench<E>>, AllocError>
+    requires { size ≤ MAX_SIZE }
+    ensures { IfOk result (λ bench. bench ≡ (if both then Some size else None)) }
+{
+    if both {
+        Ok(Some(InverseBench::new(alloc, size)?))
+    } else {
+        Ok(None)
     }
 }
 
 impl<E: Enclosure> Scan<E> {
     /// The scan of each network from `low` to `high`, driven at a live node, without an extra susceptance. No branch may belong
-    /// to a group of three yet, nor may the certified inverse be asked for.
+    /// to a group of three yet.
     pub fn between(
         alloc: Global,
         low: &Network,
@@ -92,13 +113,13 @@ impl<E: Enclosure> Scan<E> {
         requires no_group { HasNoGroup (exact_network low.now) }
         requires live { Live (exact_network low.now) driven.number }
         requires spec { IsScanSpec spec }
-        requires elimination { spec.both ≡ false }
         ensures { IfOk result (λ s. IsScanOf E.SCALE (exact_network low.now) (exact_network high.now) driven.number spec s) }
     {
         let assembly = Assembly::between(alloc, low, high, driven)?;
         let matrix = Matrix::new(alloc, assembly.size())?;
         let bench = SparseBench::new(alloc, &assembly.pattern(alloc)?)?;
-        Ok(scan_by(spec, assembly, matrix, bench))
+        let inverse = inverse_bench(alloc, spec.both, assembly.size())?;
+        Ok(scan_by(spec, assembly, matrix, bench, inverse))
     }
 
     /// The scan of a network: the one between it and itself.
@@ -112,7 +133,6 @@ impl<E: Enclosure> Scan<E> {
         requires no_group { HasNoGroup (exact_network network.now) }
         requires live { Live (exact_network network.now) driven.number }
         requires spec { IsScanSpec spec }
-        requires elimination { spec.both ≡ false }
         ensures { IfOk result (λ s. IsScanOf E.SCALE (exact_network network.now) (exact_network network.now) driven.number spec s) }
     {
         Scan::between(alloc, network, network, driven, spec)
@@ -143,7 +163,10 @@ impl<E: Enclosure> Scan<E> {
         ensures within { result.clear ≡ true → IsClearForEach self.old lo hi }
         ensures at_least { lo ≡ hi → IfSome result.micro_ohms (λ micro_ohms. IsAboveForEach self.old lo micro_ohms) }
     {
-        self.test.tested(lo, hi)
+        Tested {
+            clear: self.test.is_clear(lo, hi),
+            micro_ohms: self.test.micro_ohms(lo, hi),
+        }
     }
 
     /// The next box, or none at the band's end. What it says is true of each network. It takes no memory.

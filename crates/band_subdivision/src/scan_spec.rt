@@ -1,9 +1,13 @@
 // What a scan is asked, and what it says of one box.
 ghost use Rattle.std.specs.Prelude.{◌≡◌};
-ghost use Rattle.band_subdivision.specs.ScanSpec.{levels_of};
+ghost use Rattle.band_subdivision.specs.Boxes.{IsTestable};
+ghost use Rattle.band_subdivision.specs.Levels.{IsKept, levels_in};
+ghost use Rattle.band_subdivision.specs.ScanSpec.{HasLevels, levels_of};
 
-use crate::interval_test::ScanLevels;
+use crate::scan_levels::ScanLevels;
 use fixed_decimal::Decimal;
+use study_model::Curve;
+use threshold_curve::least_over;
 
 /// The band of a scan, how far it is split, and what the impedance is compared with.
 #[derive(Clone, Copy)]
@@ -14,25 +18,28 @@ pub struct ScanSpec {
     pub to: u32,
     /// The width in micro-orders down to which boxes are split: in `Range::FINEST`, and `MAX_WIDTHS` of them are as wide as the band.
     pub finest: u32,
-    /// The width in micro-orders from which on peaks are named: in `Range::LOCATE`, and at least `finest`.
+    /// The width in micro-orders from which on peaks are named and the certified inverse is tried: in `Range::LOCATE`, and at least `finest`.
     pub locate: u32,
-    /// The threshold, in ohms: in `Range::ABOVE_ZERO`.
-    pub threshold: Decimal,
+    /// The threshold over the orders: a lawful curve that spans the band.
+    pub curve: Curve,
     /// The nominal voltage of the scanned bus, in kV: in `Range::BUS_KV`.
     pub kv: Decimal,
     /// The base power, in MVA: in `Range::BASE_MVA`.
     pub mva: Decimal,
-    /// Whether the certified inverse is tried too. Not yet.
+    /// Whether the certified inverse is tried too, where elimination doesn't pass.
     pub both: bool,
 }
 
 impl ScanSpec {
-    /// The threshold and the base values.
-    pub fn levels(&self) -> ScanLevels
-        ensures { result ≡ levels_of self.now }
+    /// The least of the threshold from `lo` to `hi`, and the base values.
+    pub fn levels(&self, lo: u32, hi: u32) -> ScanLevels
+        requires levels { HasLevels self.now }
+        requires orders { IsTestable self.now.from lo hi }
+        ensures value { levels_in result ≡ levels_of self.now lo hi }
+        ensures in_range { IsKept result }
     {
         ScanLevels {
-            threshold: self.threshold,
+            threshold: least_over(&self.curve, lo, hi),
             kv: self.kv,
             mva: self.mva,
         }

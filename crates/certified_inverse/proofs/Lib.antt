@@ -6,3 +6,4 @@ pub mod Products
 pub mod Greatest
 pub mod Placed
 pub mod Shape
+pub mod Sizes

@@ -15,11 +15,11 @@ use Rattle.certified_inverse.specs.Certificate.{ceil_over}
 unfoldable pub raw : ℕ → ℕ → Ratio
 raw s n = over (pos n) (2 ^ s)
 
-num-raw : (s n : ℕ) → (raw s n).num ≡ pos n
+pub num-raw : (s n : ℕ) → (raw s n).num ≡ pos n
 unfolding raw
 num-raw s n = refl
 
-den-raw : (s n : ℕ) → den (raw s n) ≡ pos (2 ^ s)
+pub den-raw : (s n : ℕ) → den (raw s n) ≡ pos (2 ^ s)
 unfolding raw den
 den-raw s n = let some = pow_pos s in ap pos (let e : suc (2 ^ s - 1) ≡ 2 ^ s = omega arith in e)
 

@@ -16,8 +16,8 @@ abbrev pub with_element : Network → Expansion → Network
 with_element n e = record { buses = n.buses; nodes = n.nodes + e.inner; branches = n.branches ++ e.branches }
 
 -- more nodes or more branches than a network may have
-abbrev pub is_too_large : Network → Bool
-is_too_large n = nat_lt MAX_NODES n.nodes || nat_lt MAX_BRANCHES (length n.branches)
+abbrev pub passes_limits : Network → Bool
+passes_limits n = nat_lt MAX_NODES n.nodes || nat_lt MAX_BRANCHES (length n.branches)
 
 -- an uncoupled branch from a node to ground
 abbrev pub to_ground : ℕ → Law → ℕ → Branch

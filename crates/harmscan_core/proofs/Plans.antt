@@ -34,14 +34,14 @@ scans_of plan = map (λ planned. planned.scan) plan
 
 -- the rows of the scans before this plan were written, and this was found in them
 pub record Putting {E : Type 0} (study : Study) (plan : List (PlannedScan E)) (found : Found) (before now : SinkState) : Type 0 where
-  pub lawful : AllByRecursion (IsLawfulScan study.model study.buses) (scans_of plan)
+  pub lawful : AllByRecursion (IsLawfulScan study.version study.model study.buses) (scans_of plan)
   pub each : AllByRecursion (IsPlanned study) plan
   pub wrote : WroteFront before now (scans_text study (scans_of plan)) (scans_text study study.scans)
   pub counts : found_in study found (scans_of plan) ≡ found_over study
 
 pub putting_start : {E : Type 0} (study : Study) (plan : List (PlannedScan E)) (out : SinkState) → IsLawful study → IsPlan study plan → Putting study plan nothing_found out out
 putting_start {E} study plan out lawful is = record {
-  lawful = subst (AllByRecursion (IsLawfulScan study.model study.buses)) (sym is.scans) (recursion_from_All (IsLawfulScan study.model study.buses) study.scans lawful.scans);
+  lawful = subst (AllByRecursion (IsLawfulScan study.version study.model study.buses)) (sym is.scans) (recursion_from_All (IsLawfulScan study.model study.buses) study.scans lawful.scans);
   each = is.each;
   wrote = subst (λ (l : List ScanItem). WroteFront out out (scans_text study l) (scans_text study study.scans)) (sym is.scans) (front_start out (scans_text study study.scans));
   counts = ap (found_in study nothing_found) is.scans ∙ found_is study;
@@ -49,7 +49,7 @@ putting_start {E} study plan out lawful is = record {
 
 -- the next scan of a plan
 pub record Next {E : Type 0} (study : Study) (planned : PlannedScan E) : Type 0 where
-  pub lawful : IsLawfulScan study.model study.buses planned.scan
+  pub lawful : IsLawfulScan study.version study.model study.buses planned.scan
   pub boxes : planned.walk.left ≡ boxes_in study planned.scan
   pub texts : AllByRecursion HasText planned.walk.left
   pub few : length planned.walk.left < most_boxes

@@ -21,7 +21,7 @@ pub is_reported : {E : Type 0} (study : Study) (plan : List (PlannedScan E)) (st
 is_reported study plan status out out' lawful is shows wrote = record {
   status_is = shows;
   written = wrote ∙ ap (took out) (whole_report study);
-  claim = study_holds study lawful (recursion_from_All (IsLawfulScan study.model study.buses) study.scans lawful.scans) (plan_can study plan is);
+  claim = study_holds study lawful (recursion_from_All (IsLawfulScan study.version study.model study.buses) study.scans lawful.scans) (plan_can study plan is);
 }
 
 -- a report that wasn't taken whole

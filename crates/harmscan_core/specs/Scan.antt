@@ -1,5 +1,5 @@
 -- The boxes of a scan.
-use Rattle.std.specs.Prelude.{ℕ, unsigned_abs, false, List}
+use Rattle.std.specs.Prelude.{ℕ, unsigned_abs, Bool, true, false, List}
 use Rattle.network_theory.specs.Network.{Network}
 use Rattle.network_theory.specs.Reach.{is_live}
 use Rattle.admittance_box.specs.Places.{node_ordering}
@@ -7,11 +7,18 @@ use Rattle.study_model.specs.Voltages.{kv_of}
 use Rattle.sequence_network.specs.Networks.{network_of}
 use Rattle.band_subdivision.specs.Boxes.{BoxTest, boxes_of}
 use Rattle.band_subdivision.specs.PairTest.{pair_test}
-use Rattle.band_subdivision.specs.ScanSpec.{levels_of, widths_of, nothing}
+use Rattle.band_subdivision.specs.ScanSpec.{asked_of, widths_of, nothing}
 use Rattle.band_subdivision.specs.declared.scan_spec.ScanSpec.{ScanSpec}
 use Rattle.scan_report.specs.declared.boxes.BoxRow.{BoxRow}
+use Rattle.study_model.specs.declared.words.Method.{Method}
+use Rattle.study_model.specs.declared.words.Method.TheVariants as method
 use Rattle.study_model.specs.declared.records.ScanItem.{ScanItem}
 use Rattle.study_model.specs.declared.records.Study.{Study}
+
+-- whether the certified inverse is asked too
+abbrev pub is_both : Method → Bool
+is_both method.Elimination = false
+is_both method.Both = true
 
 -- what a scan of a study is asked
 abbrev pub spec_of : Study → ScanItem → ScanSpec
@@ -20,10 +27,10 @@ spec_of study scan = record {
   to = unsigned_abs scan.to;
   finest = unsigned_abs scan.finest;
   locate = unsigned_abs scan.locate;
-  threshold = scan.threshold;
+  curve = scan.curve;
   kv = kv_of study.buses scan.bus;
   mva = study.mva;
-  both = false;
+  both = is_both study.method;
 }
 
 -- the live nodes of a network, inner ones before those of buses, and the scanned one last
@@ -32,7 +39,7 @@ ordering_of network driven = node_ordering network (is_live network) driven
 
 -- the interval test of a network that is scanned at a node
 abbrev pub network_test : ℕ → ScanSpec → Network → ℕ → BoxTest
-network_test scale spec network driven = pair_test scale (levels_of spec) network network (ordering_of network driven) nothing
+network_test scale spec network driven = pair_test scale (asked_of spec) network network (ordering_of network driven) nothing
 
 -- the test of the boxes of a scan
 unfoldable pub test_of : Study → ScanItem → BoxTest

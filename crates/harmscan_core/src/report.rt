@@ -267,14 +267,14 @@ fn net_word(network: Sequence) -> NetWord
 }
 
 /// Puts a scan's first row.
-#[tactic(auto, unfolding(crate::specs::Texts::head_text))]
+#[tactic(auto, unfolding(crate::specs::Texts::head_text), using(crate::proofs::StudyFacts::threshold_above))]
 fn put_head<O: Sink>(
     study: &Study,
     scan: &ScanItem,
     line: &mut LineBuf,
     out: &mut O,
 ) -> Result<(), PutFault>
-    requires scan { IsLawfulScan study.now.model study.now.buses scan.now }
+    requires scan { IsLawfulScan study.now.version study.now.model study.now.buses scan.now }
     ensures { Writes (head_text study.now scan.now) (O.state out.old) (O.state out.new) result }
 {
     let row = Row::Scan {
@@ -321,7 +321,7 @@ fn put_scan<E: Enclosure, O: Sink>(
     out: &mut O,
 ) -> Result<Counts, PutFault>
     requires hz { IsIn HERTZ study.now.hz }
-    requires scan { IsLawfulScan study.now.model study.now.buses scan.now }
+    requires scan { IsLawfulScan study.now.version study.now.model study.now.buses scan.now }
     requires boxes { walk.old.left ≡ boxes_in study.now scan.now }
     requires text { AllByRecursion HasText walk.old.left }
     requires few { length walk.old.left < most_boxes }

@@ -6,7 +6,7 @@ ghost use Rattle.study_reader.specs.Built.{IsBuilt};
 ghost use Rattle.sequence_network.specs.Built.{IsNetworkOf};
 ghost use Rattle.sequence_network.specs.Networks.{network_of};
 ghost use Rattle.sequence_network.specs.Refusals.{HasLiveNetworks};
-ghost use Rattle.harmscan_core.specs.Scan.{spec_of, boxes_in};
+ghost use Rattle.harmscan_core.specs.Scan.{is_both, spec_of, boxes_in};
 ghost use Rattle.harmscan_core.specs.Plan.{CanScan, IsPlan, network_at, AreNetworksOf};
 
 use crate::plan::PlannedScan;
@@ -18,7 +18,7 @@ use net_branch::{Network, NodeId};
 use sequence_network::Networks;
 use std::alloc::{AllocError, Global};
 use std::collections::VecDeque;
-use study_model::{ScanItem, Sequence, Study};
+use study_model::{Method, ScanItem, Sequence, Study};
 
 /// Micro-orders, as a whole number.
 pub fn micro(order: Decimal) -> u32
@@ -29,9 +29,19 @@ pub fn micro(order: Decimal) -> u32
     order.millionths as u32
 }
 
+/// Whether the certified inverse is asked too.
+fn is_both(method: Method) -> bool
+    ensures { result ≡ is_both method }
+{
+    match method {
+        Method::Elimination => false,
+        Method::Both => true,
+    }
+}
+
 /// What a scan is asked.
 fn spec_of(study: &Study, scan: &ScanItem) -> ScanSpec
-    requires { IsLawfulScan study.now.model study.now.buses scan.now }
+    requires { IsLawfulScan study.now.version study.now.model study.now.buses scan.now }
     ensures { result ≡ spec_of study.now scan.now }
 {
     ScanSpec {
@@ -39,10 +49,10 @@ fn spec_of(study: &Study, scan: &ScanItem) -> ScanSpec
         to: micro(scan.to),
         finest: micro(scan.finest),
         locate: micro(scan.locate),
-        threshold: scan.threshold,
+        curve: scan.curve,
         kv: kv(study, scan.bus),
         mva: study.mva,
-        both: false,
+        both: is_both(study.method),
     }
 }
 
@@ -65,7 +75,7 @@ pub fn walk_of<E: Enclosure>(
 ) -> Result<Scan<E>, AllocError>
     requires study { IsBuilt study.now }
     requires network { IsNetworkOf study.now scan.now.network network.now }
-    requires scan { IsLawfulScan study.now.model study.now.buses scan.now }
+    requires scan { IsLawfulScan study.now.version study.now.model study.now.buses scan.now }
     requires live { Live (network_of study.now scan.now.network) scan.now.bus }
     requires scale { E.SCALE ≡ study.now.scale }
     ensures can { OnOk result (CanScan study.now scan.now) }

@@ -1,4 +1,4 @@
-// Networks that were worked by hand: systems, branches, live nodes, reductions, admittances, matrices and scans, by the public calls.
+// Networks that were worked by hand: systems, branches, live nodes, admittances, matrices and scans, by the public calls.
 #![tactic(auto)]
 
 #[cfg(test)]
@@ -11,8 +11,6 @@ mod building;
 mod fixtures;
 #[cfg(test)]
 mod live_nodes;
-#[cfg(test)]
-mod reductions;
 #[cfg(test)]
 mod scans;
 #[cfg(test)]

@@ -51,9 +51,9 @@ fn expect_live_by(
     expect_live(rt, alloc, &network, after, "after")
 }
 
-// Each branch stands before the one that makes it live.
+// A chain is live from its grounded end, also where each branch stands before the one that makes it live; an island is dead.
 #[test]
-fn a_chain_is_live_from_its_grounded_end(rt: HostRuntime) -> Result<(), Fail> {
+fn chains_and_islands(rt: HostRuntime) -> Result<(), Fail> {
     let chain = [
         tie(4, ONE, 5),
         tie(3, ONE, 4),
@@ -61,24 +61,19 @@ fn a_chain_is_live_from_its_grounded_end(rt: HostRuntime) -> Result<(), Fail> {
         tie(1, ONE, 2),
         tie(0, ONE, 1),
     ];
-    let network = network_of(rt.alloc(), 6, chain.as_slice())?;
-    let grounded = bank(0, ONE);
-    expect_live_by(&rt, rt.alloc(), network, &[false; 6], grounded, &[true; 6])
-}
-
-#[test]
-fn an_island_is_dead(rt: HostRuntime) -> Result<(), Fail> {
-    let parts = [tie(2, ONE, 3), tie(5, ONE, 1)];
-    let network = network_of(rt.alloc(), 6, parts.as_slice())?;
-    let wanted = [false, true, false, false, false, true];
-    expect_live_by(
-        &rt,
-        rt.alloc(),
-        network,
-        &[false; 6],
-        coil(1, ZERO),
-        &wanted,
-    )
+    let island = [tie(2, ONE, 3), tie(5, ONE, 1)];
+    for (parts, grounded, wanted) in [
+        (chain.as_slice(), bank(0, ONE), [true; 6]),
+        (
+            island.as_slice(),
+            coil(1, ZERO),
+            [false, true, false, false, false, true],
+        ),
+    ] {
+        let network = network_of(rt.alloc(), 6, parts)?;
+        expect_live_by(&rt, rt.alloc(), network, &[false; 6], grounded, &wanted)?;
+    }
+    Ok(())
 }
 
 // A branch of these taps, without resistance.

@@ -1,12 +1,13 @@
 // Scans of small networks at 10 kV and 100 MVA, where 1 per unit is 1 ohm.
-ghost use Rattle.std.specs.Prelude.{◌≡◌, false, IfOk};
+ghost use Rattle.std.specs.Prelude.{◌≡◌, pos, IfOk};
 ghost use Rattle.net_branch.specs.Exact.{exact_network};
 ghost use Rattle.net_branch.specs.Whole.{IsWholeNetwork};
 ghost use Rattle.admittance_box.specs.HeldMatrix.{HasNoGroup};
+ghost use Rattle.study_model.specs.Curve.{curve_points, IsLawfulCurve, Spans};
 ghost use Rattle.band_subdivision.specs.ScanSpec.{IsScanSpec};
 
 use crate::fixtures::{
-    FOUR_HUNDREDTHS, TENTH, ZERO, coil, expect, live_node, network_of, two_buses,
+    FOUR_HUNDREDTHS, ONE, TENTH, ZERO, bank, coil, expect, live_node, network_of, tie, two_buses,
 };
 use band_subdivision::{Scan, ScanSpec, Tested};
 use complex_interval::{Enclosure, Span};
@@ -17,6 +18,7 @@ use scan_report::Kind;
 use std::alloc::Global;
 use std::process::Abort;
 use std::test::Fail;
+use study_model::{Curve, CurvePoint};
 
 // A bus behind a coil of this resistance.
 fn one_bus(alloc: Global, r: Fraction) -> Result<Network, Fail>
@@ -26,37 +28,64 @@ fn one_bus(alloc: Global, r: Fraction) -> Result<Network, Fail>
     network_of(alloc, 1, &[coil(0, r)])
 }
 
-// A band in micro-orders, its finest and its locating width, and a threshold in micro-ohms.
-type Asked = ([u32; 2], u32, u32, i64);
+// A band in micro-orders, its finest and its locating width, the threshold in micro-ohms at each end of the band, and whether the
+// inverse is asked too.
+#[derive(Clone, Copy)]
+struct Asked {
+    band: [u32; 2],
+    finest: u32,
+    locate: u32,
+    ohms: [u64; 2],
+    both: bool,
+}
+
+// A lawful curve of two points.
+#[tactic(auto, using(study_model::proofs::Curves::two_lawful, study_model::proofs::Curves::points_back))]
+fn curve_of(from: u32, to: u32, ohms: [u64; 2]) -> Result<Curve, Fail>
+    ensures lawful { IfOk result (λ curve. IsLawfulCurve curve) }
+    ensures spans { IfOk result (λ curve. Spans (curve_points curve) (pos from) (pos to)) }
+{
+    let [first, last] = ohms;
+    if from < 100_000 || to <= from || to > 100_000_000 {
+        return Err("no band".into());
+    }
+    if first < 1 || first >= 1_000_000_000_000 || last < 1 || last >= 1_000_000_000_000 {
+        return Err("no ohms".into());
+    }
+    let first = CurvePoint {
+        at: from,
+        ohms: first,
+    };
+    let last = CurvePoint { at: to, ohms: last };
+    Ok(Curve::of_points(&[first, last]))
+}
 
 fn spec_of(asked: Asked) -> Result<ScanSpec, Fail>
     ensures in_range { IfOk result IsScanSpec }
-    ensures elimination { IfOk result (λ spec. spec.both ≡ false) }
 {
-    let ([from, to], finest, locate, threshold) = asked;
+    let [from, to] = asked.band;
+    let curve = curve_of(from, to, asked.ohms)?;
     let band = 100_000 <= from && from < to && to <= 100_000_000;
-    let widths = 1 <= finest && finest <= locate && locate <= 100_000_000;
-    if !band || !widths || threshold < 1 || threshold >= 1_000_000_000_000 {
+    let widths = 1 <= asked.finest && asked.finest <= asked.locate && asked.locate <= 100_000_000;
+    if !band || !widths {
         return Err("out of range".into());
     }
-    if u64::from(to - from) > 65536 * u64::from(finest) {
+    if u64::from(to - from) > 65536 * u64::from(asked.finest) {
         return Err("too fine".into());
     }
     Ok(ScanSpec {
         from,
         to,
-        finest,
-        locate,
-        threshold: Decimal {
-            millionths: threshold,
-        },
+        finest: asked.finest,
+        locate: asked.locate,
+        curve,
         kv: Decimal {
             millionths: 10_000_000,
         },
         mva: Decimal {
             millionths: 100_000_000,
         },
-        both: false,
+        both: asked.both,
     })
 }
 
@@ -75,19 +104,19 @@ fn scan_of<E: Enclosure>(
     Ok(Scan::new(alloc, network, node, spec)?)
 }
 
-// The scan between a network and itself, at node 0.
+// The scan between a network and itself, at a live node.
 fn scan_between<E: Enclosure>(
     alloc: Global,
     network: &Network,
+    number: u32,
     spec: &ScanSpec,
 ) -> Result<Scan<E>, Fail>
     requires whole { IsWholeNetwork network.now }
     requires no_group { HasNoGroup (exact_network network.now) }
     requires spec { IsScanSpec spec.now }
-    requires elimination { spec.now.both ≡ false }
     ensures { IfOk result (λ s. s.spec ≡ spec.now) }
 {
-    let node = live_node(alloc, network, 0)?;
+    let node = live_node(alloc, network, number)?;
     Ok(Scan::between(alloc, network, network, node, *spec)?)
 }
 
@@ -132,7 +161,13 @@ fn expect_scan<E: Enclosure>(
 }
 
 // Against half an ohm.
-const COIL: Asked = ([1_000_000, 10_000_000], 1_000, 5_000_000, 500_000);
+const COIL: Asked = Asked {
+    band: [1_000_000, 10_000_000],
+    finest: 1_000,
+    locate: 5_000_000,
+    ohms: [500_000, 500_000],
+    both: false,
+};
 
 // |Z| = h ohms.
 const BOXES_OF_A_COIL: [Row; 2] = [
@@ -154,33 +189,80 @@ const BOXES_OF_A_COIL: [Row; 2] = [
     ),
 ];
 
+// At both scales, and between the network and itself.
 #[test]
 fn a_coil_is_above_at_both_middles(rt: HostRuntime) -> Result<(), Fail> {
     let network = one_bus(rt.alloc(), ZERO)?;
     let rows = BOXES_OF_A_COIL;
     expect_scan::<Span<40>>(&rt, rt.alloc(), &network, 0, COIL, rows.as_slice())?;
-    expect_scan::<Span<48>>(&rt, rt.alloc(), &network, 0, COIL, rows.as_slice())
-}
-
-#[test]
-fn a_scan_between_a_network_and_itself(rt: HostRuntime) -> Result<(), Fail> {
-    let network = one_bus(rt.alloc(), ZERO)?;
+    expect_scan::<Span<48>>(&rt, rt.alloc(), &network, 0, COIL, rows.as_slice())?;
     let spec = spec_of(COIL)?;
-    let mut scan: Scan<Span<40>> = scan_between(rt.alloc(), &network, &spec)?;
-    expect_boxes(&rt, &mut scan, BOXES_OF_A_COIL.as_slice());
+    let mut scan: Scan<Span<40>> = scan_between(rt.alloc(), &network, 0, &spec)?;
+    expect_boxes(&rt, &mut scan, rows.as_slice());
     Ok(())
 }
 
-const UNDECIDED: [Row; 1] = [(4_990_000, 5_010_000, Kind::Undecided)];
+// At the order 5 the admittance of node 0 is zero, and so is the impedance of node 1.
+const fn about_five(both: bool) -> Asked {
+    Asked {
+        band: [4_990_000, 5_010_000],
+        finest: 20_000,
+        locate: 20_000,
+        ohms: [20_000_000, 20_000_000],
+        both,
+    }
+}
 
-// At the order 5 the admittance of node 0 is zero.
 #[test]
-fn a_resonance_at_another_bus_leaves_a_box_undecided(rt: HostRuntime) -> Result<(), Fail> {
+fn the_inverse_decides_where_a_pivot_holds_zero(rt: HostRuntime) -> Result<(), Fail> {
     let network = two_buses(rt.alloc())?;
-    let asked = ([4_990_000, 5_010_000], 20_000, 20_000, 20_000_000);
-    let rows = UNDECIDED;
-    expect_scan::<Span<40>>(&rt, rt.alloc(), &network, 1, asked, rows.as_slice())?;
-    expect_scan::<Span<48>>(&rt, rt.alloc(), &network, 1, asked, rows.as_slice())
+    for (both, kind) in [(false, Kind::Undecided), (true, Kind::Cleared)] {
+        let rows = [(4_990_000, 5_010_000, kind)];
+        expect_scan::<Span<40>>(
+            &rt,
+            rt.alloc(),
+            &network,
+            1,
+            about_five(both),
+            rows.as_slice(),
+        )?;
+        expect_scan::<Span<48>>(
+            &rt,
+            rt.alloc(),
+            &network,
+            1,
+            about_five(both),
+            rows.as_slice(),
+        )?;
+    }
+    Ok(())
+}
+
+// |Z| is h ohms. One curve is 2h ohms, and the other 12 - h, so that they meet at the order 6.
+#[test]
+fn a_coil_against_curves(rt: HostRuntime) -> Result<(), Fail> {
+    let network = one_bus(rt.alloc(), ZERO)?;
+    let rising = Asked {
+        ohms: [2_000_000, 20_000_000],
+        ..COIL
+    };
+    let falling = Asked {
+        ohms: [11_000_000, 2_000_000],
+        ..COIL
+    };
+    let within = [
+        (1_000_000, 1_562_500, Kind::Cleared),
+        (1_562_500, 2_125_000, Kind::Cleared),
+        (2_125_000, 3_250_000, Kind::Cleared),
+        (3_250_000, 5_500_000, Kind::Cleared),
+        (5_500_000, 10_000_000, Kind::Cleared),
+    ];
+    let crossing = [(1_000_000, 5_500_000, Kind::Cleared), BOXES_OF_A_COIL[1]];
+    for (asked, rows) in [(rising, within.as_slice()), (falling, crossing.as_slice())] {
+        expect_scan::<Span<40>>(&rt, rt.alloc(), &network, 0, asked, rows)?;
+        expect_scan::<Span<48>>(&rt, rt.alloc(), &network, 0, asked, rows)?;
+    }
+    Ok(())
 }
 
 // Begins anew, if there is an extra susceptance.
@@ -237,7 +319,13 @@ const WITH_A_BANK: [Row; 6] = [
 #[test]
 fn a_resonance_with_an_extra_bank(rt: HostRuntime) -> Result<(), Fail> {
     let network = one_bus(rt.alloc(), TENTH)?;
-    let asked = ([3_000_000, 7_000_000], 125_000, 500_000, 20_000_000);
+    let asked = Asked {
+        band: [3_000_000, 7_000_000],
+        finest: 125_000,
+        locate: 500_000,
+        ohms: [20_000_000, 20_000_000],
+        both: false,
+    };
     let mut scan = scan_of(rt.alloc(), &network, 0, asked)?;
     expect_boxes(&rt, &mut scan, WITHOUT_A_BANK.as_slice());
     restart(&rt, &mut scan, Some(FOUR_HUNDREDTHS));
@@ -266,17 +354,21 @@ const fn above(micro_ohms: i128) -> Tested {
     }
 }
 
-// What a scan between a coil and itself says of an order, where a coil has so many ohms, with an extra susceptance.
+// What a scan between a network and itself says of an order at a live node, with an extra susceptance.
 fn tested(
     rt: &impl Abort,
     alloc: Global,
+    network: &Network,
+    number: u32,
     asked: Asked,
     extra: Option<Fraction>,
     order: u32,
-) -> Result<Tested, Fail> {
-    let network = one_bus(alloc, ZERO)?;
+) -> Result<Tested, Fail>
+    requires whole { IsWholeNetwork network.now }
+    requires no_group { HasNoGroup (exact_network network.now) }
+{
     let spec = spec_of(asked)?;
-    let mut scan = scan_between(alloc, &network, &spec)?;
+    let mut scan = scan_between(alloc, network, number, &spec)?;
     restart(rt, &mut scan, extra);
     if spec.from <= order && order <= spec.to {
         Ok(scan.test(order, order))
@@ -286,13 +378,20 @@ fn tested(
 }
 
 // About the order 4, with a threshold.
-const fn near(threshold: i64) -> Asked {
-    ([3_000_000, 5_000_000], 1_000, 1_000, threshold)
+const fn near(threshold: u64) -> Asked {
+    Asked {
+        band: [3_000_000, 5_000_000],
+        finest: 1_000,
+        locate: 1_000,
+        ohms: [threshold, threshold],
+        both: false,
+    }
 }
 
 // A bank of 1/16 leaves nothing of the coil's admittance, so no impedance exists.
 #[test]
 fn single_orders(rt: HostRuntime) -> Result<(), Fail> {
+    let network = one_bus(rt.alloc(), ZERO)?;
     let sixteenth = Fraction { num: 1, den: 16 };
     for (label, asked, extra, order, wanted) in [
         ("a middle", COIL, None, 3_250_000, above(3_249_999)),
@@ -319,12 +418,56 @@ fn single_orders(rt: HostRuntime) -> Result<(), Fail> {
             NEITHER,
         ),
     ] {
-        expect(
-            &rt,
-            tested(&rt, rt.alloc(), asked, extra, order)?,
-            wanted,
-            label,
-        );
+        for both in [false, true] {
+            let asked = Asked { both, ..asked };
+            expect(
+                &rt,
+                tested(&rt, rt.alloc(), &network, 0, asked, extra, order)?,
+                wanted,
+                label,
+            );
+        }
+    }
+    Ok(())
+}
+
+// A coil from node 1 to a third node: at the order 5 there are 5 ohms there, since node 1 has none, and 10 with a bank of 1/50. An
+// enclosure is less than a micro-ohm off.
+#[test]
+fn the_inverse_names_a_peak_where_a_pivot_holds_zero(rt: HostRuntime) -> Result<(), Fail> {
+    let parts = [
+        coil(1, ZERO),
+        tie(0, ONE, 1),
+        bank(0, FOUR_HUNDREDTHS),
+        tie(2, ONE, 1),
+    ];
+    let network = network_of(rt.alloc(), 3, parts.as_slice())?;
+    let fiftieth = Fraction { num: 1, den: 50 };
+    for (label, both, ohms, extra, wanted) in [
+        ("elimination alone", false, 4_000_000, None, NEITHER),
+        ("above", true, 4_000_000, None, above(4_999_999)),
+        ("within", true, 6_000_000, None, CLEAR),
+        (
+            "with a bank",
+            true,
+            6_000_000,
+            Some(fiftieth),
+            above(9_999_999),
+        ),
+        (
+            "within with a bank",
+            true,
+            11_000_000,
+            Some(fiftieth),
+            CLEAR,
+        ),
+    ] {
+        let asked = Asked {
+            ohms: [ohms, ohms],
+            ..about_five(both)
+        };
+        let found = tested(&rt, rt.alloc(), &network, 2, asked, extra, 5_000_000)?;
+        expect(&rt, found, wanted, label);
     }
     Ok(())
 }

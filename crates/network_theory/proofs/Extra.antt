@@ -13,7 +13,7 @@ use Rattle.network_theory.specs.Network.{Network}
 use Rattle.network_theory.specs.Live.{Live, grounded, joined, HasLiveNode, Carries, itself, by_group}
 use Rattle.network_theory.specs.Impedance.{shunt_admittance}
 use Rattle.network_theory.specs.Admittance.{Part, Alone, Group, branches_of, flatten, HasAdmittance, alone}
-use Rattle.network_theory.specs.Nodal.{part_entry, nodal_entry, IsDistinct, IsNodal}
+use Rattle.network_theory.specs.Nodal.{part_entry, nodal_entry, IsDistinct, IsNodal, IsNodalSystem, IsLast}
 use Rattle.network_theory.specs.Extra.{shunt_at, with_shunt, ExtraShunt}
 use Rattle.network_theory.proofs.Numbers.{R, one_at, one_at-same, one_at-apart}
 use Rattle.network_theory.proofs.Carried.{part_entry-is, IsAmong}
@@ -106,7 +106,8 @@ module _ (network : Network) (k : ℕ) (e : Ratio) where
     each-more lk [] a = (λ b i c. alone s y' (same y'), tt)
     each-more lk (p ∷ ps) a = (λ b i c. a.0 b i (carries_down lk b c), each-more lk ps a.1)
 
-    entry-more : (ps : List Part) (n n' : ℕ) → nodal_entry (ps ++ last_part ∷ []) n n' ≈ nodal_entry ps n n' ⊕ one_at k n ⊗ (y' ⊗ one_at k n')
+    -- an entry with the shunt
+    pub entry-more : (ps : List Part) (n n' : ℕ) → nodal_entry (ps ++ last_part ∷ []) n n' ≈ nodal_entry ps n n' ⊕ one_at k n ⊗ (y' ⊗ one_at k n')
     entry-more [] n n' = plain (one_at k n) (one_at k n') (real (whole (pos 1))) y' (part_entry last_part n n') (part_entry-is last_part n n') real-unit
       where
         plain : (o o' r y p : C) → p ≈ (o ⊗ r ⊕ nought) ⊗ (y ⊗ (o' ⊗ r ⊕ nought)) → r ≈ unit → p ⊕ nought ≈ nought ⊕ o ⊗ (y ⊗ o')
@@ -196,23 +197,36 @@ module _ (network : Network) (k : ℕ) (e : Ratio) where
     rows_for-is ps ordering [] = tt
     rows_for-is ps ordering (n ∷ nodes) = (row_for-is ps n ordering, rows_for-is ps ordering nodes)
 
+at_contains : (ordering : List ℕ) (n : ℕ) → n < length ordering → Contains ordering (get_or ordering n 0)
+at_contains [] n l = absurd (omega arith)
+at_contains (m ∷ ordering) zero l = (0, omega arith, refl)
+at_contains (m ∷ ordering) (suc n) l = let c = at_contains ordering n (omega arith) in (suc c.0, omega (arith, c.1), c.2)
+
+-- the nodal equations with the shunt at the last node: its part is one more, and the entries are those of all parts
+pub shunted_system : (network : Network) (h : Order) (k : ℕ) (e : Ratio) (parts : List Part) (ordering : List ℕ) (rows rows' : List (List C)) (n : ℕ) → IsNodalSystem network h parts ordering rows → IsLast ordering n k
+    → IsNodal (parts ++ Alone (shunt_at k e) (shunt_admittance e h) ∷ []) ordering rows' → IsNodalSystem (with_shunt network k e) h (parts ++ Alone (shunt_at k e) (shunt_admittance e h) ∷ []) ordering rows'
+shunted_system network h k e parts ordering rows rows' n system last entries =
+    let below : n < length ordering = subst (λ m. n < m) (sym last.count) (omega arith) in
+    let live : Live network k = (system.listed.live k).1 (subst (λ j. Contains ordering j) last.last (at_contains ordering n below)) in
+    record {
+      admitted = record {
+        all = ap (λ bs. bs ++ shunt_at k e ∷ []) system.admitted.all ∙ sym (flatten-more network k e h parts);
+        each = each-more network k e h live parts system.admitted.each;
+      };
+      listed = record {
+        distinct = system.listed.distinct;
+        live = λ m. (λ l. (system.listed.live m).0 (live_down network k e live m l), λ c. live_up network k e m ((system.listed.live m).1 c));
+      };
+      entries = entries;
+    }
+
 pub extra_shunt : ExtraShunt
 extra_shunt network h k y e r = record {
   parts = parts;
   ordering = r.ordering;
   rows = rows;
   n = r.n;
-  system = record {
-    admitted = record {
-      all = ap (λ bs. bs ++ shunt_at k e ∷ []) r.system.admitted.all ∙ sym (flatten-more network k e h r.parts);
-      each = each-more network k e h live r.parts r.system.admitted.each;
-    };
-    listed = record {
-      distinct = r.system.listed.distinct;
-      live = λ n. (λ l. (r.system.listed.live n).0 (live_down network k e live n l), λ c. live_up network k e n ((r.system.listed.live n).1 c));
-    };
-    entries = entries;
-  };
+  system = shunted_system network h k e r.parts r.ordering r.rows rows r.n r.system r.last entries;
   last = r.last;
   value = λ v.
       let c = r.value v in
@@ -240,14 +254,6 @@ extra_shunt network h k y e r = record {
 
     below : r.n < length r.ordering
     below = subst (λ m. r.n < m) (sym r.last.count) (omega arith)
-
-    live : Live network k
-    live = (r.system.listed.live k).1 (subst (λ j. Contains r.ordering j) r.last.last (at_contains r.ordering r.n below))
-      where
-        at_contains : (ordering : List ℕ) (n : ℕ) → n < length ordering → Contains ordering (get_or ordering n 0)
-        at_contains [] n l = absurd (omega arith)
-        at_contains (m ∷ ordering) zero l = (0, omega arith, refl)
-        at_contains (m ∷ ordering) (suc n) l = let c = at_contains ordering n (omega arith) in (suc c.0, omega (arith, c.1), c.2)
 
     last_row : (v : C) (x : List C) → length x ≡ suc r.n → get_or x r.n nought ≈ v → dot complex_numbers (get_or r.rows r.n []) x ≈ y ⊗ v → dot complex_numbers (get_or rows r.n []) x ≈ (y ⊕ z) ⊗ v
     last_row v x l q p =

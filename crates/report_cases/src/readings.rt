@@ -22,11 +22,16 @@ fn read(alloc: Global, text: &str) -> Option<Result<Report, ReportFault>> {
 }
 
 /// Reports, each with how many rows it has.
-const WHOLE: [(&str, &str, usize); 4] = [
+const WHOLE: [(&str, &str, usize); 5] = [
     ("an end alone", "end,3\n", 1),
     (
         "a cleared band",
         "scan,s1,B1,positive,1.000000,10.000000,20.000000,elimination\nbox,1,1.000000,10.000000,cleared,-,-\nsummary,s1,1,1,0,0,0\nend,0\n",
+        4,
+    ),
+    (
+        "a curve",
+        "scan,s1,B1,positive,1.000000,10.000000,curve,both\nbox,1,1.000000,10.000000,cleared,-,-\nsummary,s1,1,1,0,0,0\nend,0\n",
         4,
     ),
     (
@@ -49,7 +54,7 @@ fn whole_reports(rt: HostRuntime) {
 }
 
 /// Texts that are no report, each with its first line that is none.
-const BAD: [(&str, &str, u32); 19] = [
+const BAD: [(&str, &str, u32); 23] = [
     ("no bytes", "", 1),
     ("an empty line", "\n", 1),
     ("no line feed", "end,0", 1),
@@ -87,6 +92,26 @@ const BAD: [(&str, &str, u32); 19] = [
     (
         "a threshold of 0",
         "scan,s1,B1,positive,1.000000,10.000000,0.000000,elimination\n",
+        1,
+    ),
+    (
+        "a threshold of a million",
+        "scan,s1,B1,positive,1.000000,10.000000,1000000.000000,elimination\n",
+        1,
+    ),
+    (
+        "a word that goes on",
+        "scan,s1,B1,positive,1.000000,10.000000,curves,elimination\n",
+        1,
+    ),
+    (
+        "a word that ends early",
+        "scan,s1,B1,positive,1.000000,10.000000,curv,elimination\n",
+        1,
+    ),
+    (
+        "no threshold",
+        "scan,s1,B1,positive,1.000000,10.000000,-,elimination\n",
         1,
     ),
     (

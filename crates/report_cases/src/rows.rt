@@ -17,22 +17,34 @@ fn assert_line(rt: &impl Abort, label: &str, line: &LineBuf, text: &str) {
 }
 
 #[test]
-fn a_scan(rt: HostRuntime) -> Result<(), Fail> {
+fn scans_with_a_threshold_and_with_a_curve(rt: HostRuntime) -> Result<(), Fail> {
     let scan = Row::Scan {
         name: name("s1")?,
         bus: name("B1")?,
         network: NetWord::Positive,
         from: 3_000_000,
         to: 7_000_000,
-        threshold: Decimal {
+        threshold: Some(Decimal {
             millionths: 20_000_000,
-        },
+        }),
         method: Method::Elimination,
     };
     let mut line = LineBuf::new();
     scan_row(&scan, &mut line);
     let text = "scan,s1,B1,positive,3.000000,7.000000,20.000000,elimination\n";
     assert_line(&rt, "scan", &line, text);
+    let curved = Row::Scan {
+        name: name("s1")?,
+        bus: name("B1")?,
+        network: NetWord::Zero,
+        from: 1_000_000,
+        to: 10_000_000,
+        threshold: None,
+        method: Method::Both,
+    };
+    scan_row(&curved, &mut line);
+    let text = "scan,s1,B1,zero,1.000000,10.000000,curve,both\n";
+    assert_line(&rt, "curve", &line, text);
     Ok(())
 }
 

@@ -1,5 +1,5 @@
 -- A field of a text, read as a field of its kind.
-use Rattle.std.proofs.Common.{◌≡◌, ◌∙◌, ap, ℕ, ◌^◌, ◌≤◌, ◌<◌, Bool, true, false, List, [], ◌∷◌, ◌++◌, drop, min, max, refl, arith, append_assoc, ℤ, pos, negsuc, ◌<ℤ◌}
+use Rattle.std.proofs.Common.{◌≡◌, ◌∙◌, ap, ℕ, ◌^◌, ◌≤◌, ◌<◌, Bool, true, false, List, [], ◌∷◌, ◌++◌, drop, min, max, refl, arith, append_assoc, ℤ, pos, negsuc}
 use Rattle.std.proofs.lemmas.Int.{ints}
 use Rattle.std.specs.Prelude.{◌==◌, if◌then◌else◌, unsigned_abs, Option, Some, None}
 use Rattle.std.specs.Fmt.{decimal}
@@ -14,11 +14,11 @@ use Rattle.scan_report.specs.declared.rows.BoxWord.TheVariants.{Cleared, Peak, U
 use Rattle.scan_report.specs.declared.fields.Field.{Field}
 use Rattle.scan_report.specs.declared.fields.Field.TheVariants as field
 use Rattle.scan_report.specs.Text.{places}
-use Rattle.scan_report.specs.Fields.{net_word, box_word, order_or_dash, ohms_or_dash, field_text, fields_text}
+use Rattle.scan_report.specs.Fields.{net_word, box_word, order_or_dash, ohms_or_dash, ohms_or_curve, field_text, fields_text}
 use Rattle.scan_report.specs.Rows.{IsOhms}
-use Rattle.scan_report.specs.Reading.{IsShort, IsField, AreFields}
+use Rattle.scan_report.specs.Reading.{IsShort, IsThreshold, IsField, AreFields}
 use Rattle.scan_report.specs.Loose.{field_of, after_field, first_of, number_of, short_of, long_of, order_of, ohms_of, threshold_of, name_in, net_of, box_word_of, method_in}
-use Rattle.scan_report.proofs.Fronts.{Inner, Inner-decimal, Inner-places, Inner-name, Reads-decimal, Reads-places, number_is, places_no_dash, field_front, after_front}
+use Rattle.scan_report.proofs.Fronts.{Inner, Inner-decimal, Inner-places, Inner-name, Reads-decimal, Reads-places, number_is, places_no_dash, places_no_letter, field_front, after_front}
 
 -- a text read as a field of the kind of another
 abbrev pub read_as : Field → List ℕ → Field
@@ -64,13 +64,16 @@ ohms_back (Some (pos n)) h =
     rw (places_no_dash n (omega arith), number_is (places n) n (Reads-places n (omega arith)) (omega arith), e) refl
 ohms_back (Some (negsuc n)) h = absurd h
 
-threshold_back : (t : ℤ) → pos 0 <ℤ t → unsigned_abs t < 10 ^ 12 → threshold_of (places (unsigned_abs t)) ≡ t
+threshold_back : (t : Option ℤ) → IsThreshold t → threshold_of (ohms_or_curve t) ≡ t
 unfolding threshold_of
-threshold_back (pos n) some small =
-    let big : 1 ≤ n = omega (arith, ints) in
+threshold_back None h = refl
+threshold_back (Some (pos n)) h =
+    let some = h.0 in
+    let small : n < 10 ^ 12 = h.1 in
+    let big : 1 ≤ n = omega (arith, ints, some) in
     let e : max 1 (min n 999999999999) ≡ n = omega arith in
-    rw (number_is (places n) n (Reads-places n (omega arith)) (omega arith), e) refl
-threshold_back (negsuc n) some small = absurd (omega (arith, ints))
+    rw (places_no_letter n (omega arith), number_is (places n) n (Reads-places n (omega arith)) (omega arith), e) refl
+threshold_back (Some (negsuc n)) h = let some = h.0 in absurd (omega (arith, ints, some))
 
 name_back : (x : List ℕ) → is_name x ≡ true → name_in x ≡ x
 unfolding name_in
@@ -121,12 +124,16 @@ inner_ohms None h = record { is = refl }
 inner_ohms (Some (pos n)) h = Inner-places n (omega arith)
 inner_ohms (Some (negsuc n)) h = absurd h
 
+inner_threshold : (t : Option ℤ) → IsThreshold t → Inner (ohms_or_curve t)
+inner_threshold None h = record { is = refl }
+inner_threshold (Some ohms) h = let small : unsigned_abs ohms < 10 ^ 12 = h.1 in Inner-places (unsigned_abs ohms) (omega arith)
+
 inner_field : (f : Field) → IsField f → Inner (field_text f)
 inner_field (field.Name name) h = Inner-name name h
 inner_field (field.Number number) h = Inner-decimal number (omega arith)
 inner_field (field.Order order) h = Inner-places order (omega arith)
 inner_field (field.Hertz hertz) h = Inner-places hertz (omega arith)
-inner_field (field.Threshold ohms) h = let small : unsigned_abs ohms < 10 ^ 12 = h.1 in Inner-places (unsigned_abs ohms) (omega arith)
+inner_field (field.Threshold ohms) h = inner_threshold ohms h
 inner_field (field.At order) h = inner_order order h
 inner_field (field.Bound ohms) h = inner_ohms ohms h
 inner_field (field.Network word) h = inner_net word
@@ -139,7 +146,7 @@ field_back (field.Name name) h = ap (λ x. field.Name x) (name_back name h)
 field_back (field.Number number) h = ap (λ x. field.Number x) (short_decimal number h)
 field_back (field.Order order) h = ap (λ x. field.Order x) (short_places order h)
 field_back (field.Hertz hertz) h = ap (λ x. field.Hertz x) (long_places hertz h)
-field_back (field.Threshold ohms) h = ap (λ x. field.Threshold x) (threshold_back ohms h.0 h.1)
+field_back (field.Threshold ohms) h = ap (λ x. field.Threshold x) (threshold_back ohms h)
 field_back (field.At order) h = ap (λ x. field.At x) (order_back order h)
 field_back (field.Bound ohms) h = ap (λ x. field.Bound x) (ohms_back ohms h)
 field_back (field.Network word) h = ap (λ x. field.Network x) (net_back word)
@@ -171,20 +178,19 @@ name_is : (x : List ℕ) → is_name (name_in x) ≡ true
 unfolding name_in
 name_is x = name_by (is_name x) x refl
 
-threshold_some : (x : List ℕ) → pos 0 <ℤ threshold_of x
-unfolding threshold_of
-threshold_some x = omega (arith, ints)
+threshold_within : (x : List ℕ) → IsThreshold (Some (pos (max 1 (min (number_of x) 999999999999))))
+threshold_within x = (omega (arith, ints), omega arith)
 
-threshold_small : (x : List ℕ) → unsigned_abs (threshold_of x) < 10 ^ 12
+threshold_is : (x : List ℕ) → IsThreshold (threshold_of x)
 unfolding threshold_of
-threshold_small x = omega arith
+threshold_is x = elim (first_of x == 99) as (λ b. IsThreshold (if b then None else Some (pos (max 1 (min (number_of x) 999999999999))))) [ true ↦ tt | false ↦ threshold_within x ]
 
 field_is : (f : Field) (x : List ℕ) → IsField (read_as f x)
 field_is (field.Name name) x = name_is x
 field_is (field.Number number) x = short_lt x
 field_is (field.Order order) x = short_lt x
 field_is (field.Hertz hertz) x = long_lt x
-field_is (field.Threshold ohms) x = (threshold_some x, threshold_small x)
+field_is (field.Threshold ohms) x = threshold_is x
 field_is (field.At order) x = order_short x
 field_is (field.Bound ohms) x = ohms_are x
 field_is (field.Network word) x = tt

@@ -141,18 +141,36 @@ pub number_is : (x : List ℕ) (n : ℕ) → Reads x n → n ≤ 10 ^ 37 → num
 unfolding number_of
 number_is x n r h = r.is ∙ omega arith
 
--- no dash begins a number
-pub record NoDash (x : List ℕ) : Type 0 where
-  pub is : (y : List ℕ) → (first_of (x ++ y) == 45) ≡ false
+-- a digit
+record IsDigit (byte : ℕ) : Type 0 where
+  least : 48 ≤ byte
+  most : byte ≤ 57
 
-no_dash : (d : ℕ) → d < 10 → NoDash ((48 + d) ∷ [])
-no_dash d h = record { is = λ y. grind (arith, nat_tests) }
+-- a digit begins a number
+record DigitFirst (x : List ℕ) : Type 0 where
+  is : (y : List ℕ) → IsDigit (first_of (x ++ y))
 
-no_dash_more : (x z : List ℕ) → NoDash x → NoDash (x ++ z)
-no_dash_more x z r = record { is = λ y. rw append_assoc (r.is (z ++ y)) }
+digit_first : (d : ℕ) → d < 10 → DigitFirst ((48 + d) ∷ [])
+digit_first d h = record { is = λ y. record { least = omega arith; most = omega arith } }
 
-pub NoDash-decimal : (n : ℕ) → n < 10 ^ 64 → NoDash (decimal n)
-NoDash-decimal n h = decimal_by_steps_wide (λ k ds. NoDash ds) no_dash (λ k ds big rest. no_dash_more ds ((48 + k % 10) ∷ []) rest) n h
+digit_more : (x z : List ℕ) → DigitFirst x → DigitFirst (x ++ z)
+digit_more x z r = record { is = λ y. rw append_assoc (r.is (z ++ y)) }
 
+decimal_digit_first : (n : ℕ) → n < 10 ^ 64 → DigitFirst (decimal n)
+decimal_digit_first n h = decimal_by_steps_wide (λ k ds. DigitFirst ds) digit_first (λ k ds big rest. digit_more ds ((48 + k % 10) ∷ []) rest) n h
+
+places_digit : (n : ℕ) → n < 10 ^ 64 → IsDigit (first_of (places n))
+places_digit n h = (decimal_digit_first (n / 1000000) (omega arith)).is (46 ∷ six_digits (n % 1000000))
+
+no_dash : (byte : ℕ) → IsDigit byte → (byte == 45) ≡ false
+no_dash byte h = let least = h.least in grind (arith, nat_tests)
+
+no_letter : (byte : ℕ) → IsDigit byte → (byte == 99) ≡ false
+no_letter byte h = let most = h.most in grind (arith, nat_tests)
+
+-- neither a dash nor the letter of a curve
 pub places_no_dash : (n : ℕ) → n < 10 ^ 64 → (first_of (places n) == 45) ≡ false
-places_no_dash n h = (NoDash-decimal (n / 1000000) (omega arith)).is (46 ∷ six_digits (n % 1000000))
+places_no_dash n h = no_dash (first_of (places n)) (places_digit n h)
+
+pub places_no_letter : (n : ℕ) → n < 10 ^ 64 → (first_of (places n) == 99) ≡ false
+places_no_letter n h = no_letter (first_of (places n)) (places_digit n h)

@@ -33,13 +33,18 @@ abbrev pub ohms_or_dash : Option ℤ → List ℕ
 ohms_or_dash None = codes "-"
 ohms_or_dash (Some micro_ohms) = places (unsigned_abs micro_ohms)
 
+-- ohms, or the word of a curve where they are absent
+abbrev pub ohms_or_curve : Option ℤ → List ℕ
+ohms_or_curve None = codes "curve"
+ohms_or_curve (Some ohms) = places (unsigned_abs ohms)
+
 -- the text of a field
 abbrev pub field_text : Field → List ℕ
 field_text (field.Name name) = name
 field_text (field.Number number) = decimal number
 field_text (field.Order order) = places order
 field_text (field.Hertz hertz) = places hertz
-field_text (field.Threshold ohms) = places (unsigned_abs ohms)
+field_text (field.Threshold ohms) = ohms_or_curve ohms
 field_text (field.At order) = order_or_dash order
 field_text (field.Bound micro_ohms) = ohms_or_dash micro_ohms
 field_text (field.Network word) = net_word word

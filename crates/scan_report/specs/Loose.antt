@@ -56,9 +56,9 @@ order_of text = if first_of text == 45 then None else Some (short_of text)
 unfoldable pub ohms_of : List ℕ → Option ℤ
 ohms_of text = if first_of text == 45 then None else Some (pos (min (number_of text) (2 ^ 120)))
 
--- a threshold, above 0
-unfoldable pub threshold_of : List ℕ → ℤ
-threshold_of text = pos (max 1 (min (number_of text) 999999999999))
+-- a threshold, above 0, or none
+unfoldable pub threshold_of : List ℕ → Option ℤ
+threshold_of text = if first_of text == 99 then None else Some (pos (max 1 (min (number_of text) 999999999999)))
 
 -- the text, where it is a name
 unfoldable pub name_in : List ℕ → List ℕ

@@ -1,5 +1,5 @@
 -- Which bytes are a report, and the first line at which they aren't one.
-use Rattle.std.specs.Prelude.{◌≡◌, ℕ, ◌+◌, ◌<◌, ◌^◌, pos, ◌<ℤ◌, unsigned_abs, IsTrue, List, [], ◌∷◌, ◌++◌, length, Option, Some, None}
+use Rattle.std.specs.Prelude.{◌≡◌, ℕ, ◌+◌, ◌<◌, ◌^◌, ℤ, pos, ◌<ℤ◌, unsigned_abs, IsTrue, List, [], ◌∷◌, ◌++◌, length, Option, Some, None}
 use Rattle.study_model.specs.NameText.{is_name}
 use Rattle.scan_report.specs.Rows.{fields_of, row_text, IsOhms}
 use Rattle.scan_report.specs.declared.fields.Field.{Field}
@@ -39,13 +39,18 @@ abbrev pub IsShort : Option ℕ → Type 0
 IsShort None = Unit {0}
 IsShort (Some n) = n < 2 ^ 32
 
+-- a threshold above 0 and below a million ohms, or none
+abbrev pub IsThreshold : Option ℤ → Type 0
+IsThreshold None = Unit {0}
+IsThreshold (Some ohms) = (pos 0 <ℤ ohms) × (unsigned_abs ohms < 10 ^ 12)
+
 -- a field in the range of its kind
 abbrev pub IsField : Field → Type 0
 IsField (field.Name name) = IsTrue (is_name name)
 IsField (field.Number number) = number < 2 ^ 32
 IsField (field.Order order) = order < 2 ^ 32
 IsField (field.Hertz hertz) = hertz < 2 ^ 64
-IsField (field.Threshold ohms) = (pos 0 <ℤ ohms) × (unsigned_abs ohms < 10 ^ 12)
+IsField (field.Threshold ohms) = IsThreshold ohms
 IsField (field.At order) = IsShort order
 IsField (field.Bound micro_ohms) = IsOhms micro_ohms
 IsField (field.Network word) = Unit {0}

@@ -37,10 +37,15 @@ IsOhms None = Unit {0}
 IsOhms (Some (pos n)) = n ≤ 2 ^ 120
 IsOhms (Some (negsuc n)) = ⊥
 
+-- a threshold above 0, or none
+abbrev pub IsAboveZero : Option ℤ → Type 0
+IsAboveZero None = Unit {0}
+IsAboveZero (Some ohms) = pos 0 <ℤ ohms
+
 -- a field that has a text: ohms from 0 to 2 ^ 120, and a threshold above 0
 abbrev pub HasFieldText : Field → Type 0
 HasFieldText (field.Bound micro_ohms) = IsOhms micro_ohms
-HasFieldText (field.Threshold ohms) = pos 0 <ℤ ohms
+HasFieldText (field.Threshold ohms) = IsAboveZero ohms
 HasFieldText _ = Unit {0}
 
 abbrev pub HaveText : List Field → Type 0

@@ -126,12 +126,15 @@ pub(crate) fn ohms_of(text: &[u8]) -> Option<i128>
 }
 
 #[tactic(auto, unfolding(crate::specs::Loose::threshold_of))]
-pub(crate) fn threshold_of(text: &[u8]) -> Decimal
+pub(crate) fn threshold_of(text: &[u8]) -> Option<Decimal>
     ensures { result ≡ threshold_of text.now }
 {
-    Decimal {
-        millionths: number_of(text).min(999_999_999_999).max(1) as i64,
+    if first_of(text) == b'c' {
+        return None;
     }
+    Some(Decimal {
+        millionths: number_of(text).min(999_999_999_999).max(1) as i64,
+    })
 }
 
 /// The name `a`.

@@ -1,7 +1,7 @@
 // The fields of a row: what kinds there are, and each one's text.
 ghost use Rattle.std.specs.Prelude.{◌≡◌, ◌≤◌, ◌+◌, ◌++◌, length};
-ghost use Rattle.scan_report.specs.Fields.{net_word, box_word, order_or_dash, ohms_or_dash, field_text, fields_text, most_of, most_of_all};
-ghost use Rattle.scan_report.specs.Rows.{IsOhms, HasFieldText, HaveText};
+ghost use Rattle.scan_report.specs.Fields.{net_word, box_word, order_or_dash, ohms_or_dash, ohms_or_curve, field_text, fields_text, most_of, most_of_all};
+ghost use Rattle.scan_report.specs.Rows.{IsOhms, IsAboveZero, HasFieldText, HaveText};
 
 use crate::line::{LineBuf, push_millionths, push_number, push_places};
 use crate::rows::{BoxWord, NetWord};
@@ -15,7 +15,8 @@ pub enum Field {
     Number(u32),
     Order(u32),
     Hertz(u64),
-    Threshold(Decimal),
+    /// Ohms, or none where they are those of a curve.
+    Threshold(Option<Decimal>),
     /// An order, or none.
     At(Option<u32>),
     /// Ohms, or none.
@@ -73,6 +74,18 @@ fn push_ohms(line: &mut LineBuf, ohms: Option<i128>)
     }
 }
 
+fn push_threshold(line: &mut LineBuf, ohms: Option<Decimal>)
+    requires range { IsAboveZero ohms }
+    requires room { length line.old + 21 ≤ 256 }
+    ensures text { line.new ≡ line.old ++ ohms_or_curve ohms }
+    ensures len { length line.new ≤ length line.old + 21 }
+{
+    match ohms {
+        Some(ohms) => push_millionths(line, ohms.millionths.unsigned_abs()),
+        None => line.push_text(b"curve"),
+    }
+}
+
 /// Puts a field's text at the end.
 fn push_field(line: &mut LineBuf, field: &Field)
     requires has { HasFieldText field.now }
@@ -85,7 +98,7 @@ fn push_field(line: &mut LineBuf, field: &Field)
         Field::Number(number) => push_number(line, *number),
         Field::Order(order) => push_millionths(line, u64::from(*order)),
         Field::Hertz(hertz) => push_millionths(line, *hertz),
-        Field::Threshold(ohms) => push_millionths(line, ohms.millionths.unsigned_abs()),
+        Field::Threshold(ohms) => push_threshold(line, *ohms),
         Field::At(order) => push_at(line, *order),
         Field::Bound(ohms) => push_ohms(line, *ohms),
         Field::Network(word) => line.push_text(net_text(*word)),

@@ -1,5 +1,5 @@
 // Reports read back: a text is read as a row, whatever stands in it, and is that row where it is the row's own text.
-ghost use Rattle.std.specs.Prelude.{◌≡◌, ◌≢◌, ◌<◌, ◌^◌, ◌↔◌, IsTrue, IfOk, IfErr, IfSome, IfNone, ℕ, List, [], ◌++◌, length, MatchOption};
+ghost use Rattle.std.specs.Prelude.{◌≡◌, ◌≢◌, ◌<◌, ◌^◌, ◌↔◌, IsTrue, IfOk, IfErr, OnOk, IfSome, IfNone, ℕ, List, [], ◌∷◌, ◌++◌, length, MatchOption};
 ghost use Rattle.scan_report.specs.Rows.{row_text};
 ghost use Rattle.scan_report.specs.Reading.{ended, MayStand, IsRow, IsReport, BadLine, NoReportIsBad, stage_after};
 ghost use Rattle.scan_report.specs.Stands.{stage_of, BeginsText, BeginsWith, BeginsWithNone};
@@ -112,6 +112,17 @@ fn is_done(stand: Stand, rest: &[u8]) -> bool
     matches!(stand, Stand::Ended) && rest.is_empty()
 }
 
+/// Keeps an item behind those before.
+fn keep<T: Copy>(items: &mut Items<T>, item: T) -> Result<(), ReportFault>
+    ensures kept { OnOk result (items.new ≡ items.old ++ item ∷ []) }
+    ensures memory { IfErr result (λ fault. fault ≡ ReportFault.NoMemory) }
+{
+    if items.push(item).is_err() {
+        return Err(ReportFault::NoMemory);
+    }
+    Ok(())
+}
+
 /// The rows of a report, from its bytes. `BadRow` with the number, from 1, of the first line that is no row which may stand there, or of the line
 /// past the last one where the last row of a report is absent. A line that differs in one byte from a row's own text, as by a leading zero,
 /// a quote or a carriage return, is no row.
@@ -132,9 +143,7 @@ pub fn read_report(alloc: Global, bytes: &[u8]) -> Result<Report, ReportFault>
         };
         stand = stand_after(&found.row);
         place += found.len;
-        if rows.push(found.row).is_err() {
-            return Err(ReportFault::NoMemory);
-        }
+        keep::<Row>(&mut rows, found.row)?;
     }
 }
 

@@ -28,14 +28,14 @@ pub enum BoxWord {
 /// A row of a report. Orders are in micro-orders, ohms in micro-ohms.
 #[derive(Clone, Copy)]
 pub enum Row {
-    /// The first row of a scan: its band, and its threshold in ohms.
+    /// The first row of a scan: its band, and its threshold in ohms, which is absent where it is a curve.
     Scan {
         name: Name,
         bus: Name,
         network: NetWord,
         from: u32,
         to: u32,
-        threshold: Decimal,
+        threshold: Option<Decimal>,
         method: Method,
     },
     /// A box, by its number from 1 within the scan. A peak has an order and a bound.
@@ -77,7 +77,7 @@ pub enum Row {
 }
 
 /// Sets the line to the text of a scan's first row.
-/// Condition: the row is of its kind, and its threshold is above 0.
+/// Condition: the row is of its kind, and its threshold, where it has one, is above 0.
 pub fn scan_row(row: &Row, line: &mut LineBuf)
     requires { IsRowOf (codes "scan") row.now }
     ensures text { line.new ≡ row_text row.now }

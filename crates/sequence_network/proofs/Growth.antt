@@ -3,7 +3,7 @@ use Rattle.std.proofs.Common.{◌≡◌, ℕ, zero, suc, ◌+◌, ◌≤◌, ◌
 use Rattle.std.proofs.lemmas.Bool.Decides.{nat_tests}
 use Rattle.std.proofs.lemmas.List.{length-map}
 use Rattle.network_theory.specs.Network.{Network}
-use Rattle.element_parts.specs.Expansion.{with_element, is_too_large}
+use Rattle.element_parts.specs.Expansion.{with_element, passes_limits}
 use Rattle.net_branch.specs.declared.limits.TheConstants.{MAX_NODES, MAX_BRANCHES}
 use Rattle.net_branch.specs.Exact.{exact_network, exact_branch}
 use Rattle.net_branch.specs.Whole.{IsWithinLimits}
@@ -49,7 +49,7 @@ one_more study sequence n m target place x f g =
 pub all_added : (study : Study) (sequence : Sequence) (n target : Network) (place : ℕ) → length (elements_of study) ≤ place → Becomes study sequence n place target → n ≡ target
 all_added study sequence n target place h g = subst (λ (l : List StudyElement). with_elements study sequence n (place + 1) l ≡ target) (none_left (elements_of study) place h) g
 
--- a network that is too large stays so
+-- a network that passes the limits stays so
 record IsWithin (n m : Network) : Type 0 where
   nodes : n.nodes ≤ m.nodes
   branches : length n.branches ≤ length m.branches
@@ -64,21 +64,21 @@ grows study sequence n owner (x ∷ xs) =
       branches = omega (arith, more.branches, length-append n.branches added.branches);
     }
 
-still_large : (n m : Network) → IsWithin n m → is_too_large n ≡ true → is_too_large m ≡ true
-still_large n m h e = grind (arith, nat_tests, h.nodes, h.branches)
+still_passes : (n m : Network) → IsWithin n m → passes_limits n ≡ true → passes_limits m ≡ true
+still_passes n m h e = grind (arith, nat_tests, h.nodes, h.branches)
 
-large_stays : (study : Study) (sequence : Sequence) (n : Network) (owner : ℕ) (xs : List StudyElement) → is_too_large n ≡ true → is_too_large (with_elements study sequence n owner xs) ≡ true
-large_stays study sequence n owner xs e = still_large n (with_elements study sequence n owner xs) (grows study sequence n owner xs) e
+passing_stays : (study : Study) (sequence : Sequence) (n : Network) (owner : ℕ) (xs : List StudyElement) → passes_limits n ≡ true → passes_limits (with_elements study sequence n owner xs) ≡ true
+passing_stays study sequence n owner xs e = still_passes n (with_elements study sequence n owner xs) (grows study sequence n owner xs) e
 
--- an element that makes a network too large does so whatever comes after it
-pub large_element : (study : Study) (sequence : Sequence) (n target : Network) (place : ℕ) (x : IsNext (elements_of study) place)
-    → is_too_large (with_element n (expansion_of study sequence n.nodes x.element (place + 1))) ≡ true → Becomes study sequence n place target → is_too_large target ≡ true
-large_element study sequence n target place x f g =
-    subst (λ (k : Network). is_too_large k ≡ true) (by_next study sequence n target place x g)
-    (large_stays study sequence (with_element n (expansion_of study sequence n.nodes x.element (place + 1))) (place + 1 + 1) (drop (suc place) (elements_of study)) f)
+-- an element with which a network passes the limits makes it do so whatever comes after it
+pub passing_element : (study : Study) (sequence : Sequence) (n target : Network) (place : ℕ) (x : IsNext (elements_of study) place)
+    → passes_limits (with_element n (expansion_of study sequence n.nodes x.element (place + 1))) ≡ true → Becomes study sequence n place target → passes_limits target ≡ true
+passing_element study sequence n target place x f g =
+    subst (λ (k : Network). passes_limits k ≡ true) (by_next study sequence n target place x g)
+    (passing_stays study sequence (with_element n (expansion_of study sequence n.nodes x.element (place + 1))) (place + 1 + 1) (drop (suc place) (elements_of study)) f)
 
-fits_limits : (k b : ℕ) → k ≤ MAX_NODES → b ≤ MAX_BRANCHES → (nat_lt MAX_NODES k || nat_lt MAX_BRANCHES b) ≡ false
-fits_limits k b h g = grind (arith, nat_tests)
+counts_fit : (k b : ℕ) → k ≤ MAX_NODES → b ≤ MAX_BRANCHES → (nat_lt MAX_NODES k || nat_lt MAX_BRANCHES b) ≡ false
+counts_fit k b h g = grind (arith, nat_tests)
 
 -- a network with its bus nodes alone, and what is to come
 pub start_of : (study : Study) (sequence : Sequence) (n : BuiltNetwork) (b : ℕ) → n ≡ record { buses = b; nodes = b; branches = [] } → b ≡ length study.buses
@@ -89,8 +89,8 @@ start_of study sequence n b e h =
     ap (λ (k : Network). with_elements study sequence k 1 (elements_of study)) start
 
 -- a whole network is within the limits
-pub not_too_large : (n : BuiltNetwork) (m : Network) → IsWithinLimits n → exact_network n ≡ m → is_too_large m ≡ false
-not_too_large n m h e =
+pub whole_fits : (n : BuiltNetwork) (m : Network) → IsWithinLimits n → exact_network n ≡ m → passes_limits m ≡ false
+whole_fits n m h e =
     let nodes = h.nodes in
     let branches : length (exact_network n).branches ≤ MAX_BRANCHES = omega (arith, h.branches, length-map n.branches exact_branch) in
-    subst (λ (k : Network). is_too_large k ≡ false) e (fits_limits (exact_network n).nodes (length (exact_network n).branches) nodes branches)
+    subst (λ (k : Network). passes_limits k ≡ false) e (counts_fit (exact_network n).nodes (length (exact_network n).branches) nodes branches)

@@ -9,7 +9,7 @@ use Rattle.study_model.specs.declared.records.Study.{Study}
 use Rattle.study_model.specs.declared.words.Sequence.TheVariants.{Positive, Zero}
 use Rattle.sequence_network.specs.Networks.{network_of}
 use Rattle.sequence_network.proofs.Liveness.{no_floating_bus}
-use Rattle.sequence_network.specs.Refusals.{bus_place, scan_place, IsLiveScan, IsFloatingBus, floating_bus, IsFloatingScan, floating_scan, IsLiveRefusal, positive_too_large, zero_too_large, bus, scan}
+use Rattle.sequence_network.specs.Refusals.{bus_place, scan_place, IsLiveScan, IsFloatingBus, floating_bus, IsFloatingScan, floating_scan, IsLiveRefusal, positive_passes, zero_passes, bus, scan}
 
 -- an element that is there and fails what another says of it
 both : {A : Type 0} (P : A → Type 0) (o : Option A) → IsSomeAnd o (λ x. ¬ P x) → IsSomeAnd o P → ⊥
@@ -39,19 +39,19 @@ same_scan network scans _ _ (floating_scan n dead before) (floating_scan m dead'
     go (inr (inr less)) = absurd (both (IsLiveScan network) (slice_get scans m) dead' (before m less))
 
 pub same_live_refusal : (study : Study) (f g : StudyFault) → IsLiveRefusal study f → IsLiveRefusal study g → f ≡ g
-same_live_refusal study _ _ (positive_too_large large) (positive_too_large large') = refl
-same_live_refusal study _ _ (positive_too_large large) (zero_too_large fits large') = refl
-same_live_refusal study _ _ (positive_too_large large) (bus g room floats) = let small = room.positive in absurd (cc)
-same_live_refusal study _ _ (positive_too_large large) (scan g room buses floats) = let small = room.positive in absurd (cc)
-same_live_refusal study _ _ (zero_too_large fits large) (positive_too_large large') = refl
-same_live_refusal study _ _ (zero_too_large fits large) (zero_too_large fits' large') = refl
-same_live_refusal study _ _ (zero_too_large fits large) (bus g room floats) = let small = room.zero in absurd (cc)
-same_live_refusal study _ _ (zero_too_large fits large) (scan g room buses floats) = let small = room.zero in absurd (cc)
-same_live_refusal study _ _ (bus f room floats) (positive_too_large large) = let small = room.positive in absurd (cc)
-same_live_refusal study _ _ (bus f room floats) (zero_too_large fits large) = let small = room.zero in absurd (cc)
+same_live_refusal study _ _ (positive_passes large) (positive_passes large') = refl
+same_live_refusal study _ _ (positive_passes large) (zero_passes fits large') = refl
+same_live_refusal study _ _ (positive_passes large) (bus g room floats) = let small = room.positive in absurd (cc)
+same_live_refusal study _ _ (positive_passes large) (scan g room buses floats) = let small = room.positive in absurd (cc)
+same_live_refusal study _ _ (zero_passes fits large) (positive_passes large') = refl
+same_live_refusal study _ _ (zero_passes fits large) (zero_passes fits' large') = refl
+same_live_refusal study _ _ (zero_passes fits large) (bus g room floats) = let small = room.zero in absurd (cc)
+same_live_refusal study _ _ (zero_passes fits large) (scan g room buses floats) = let small = room.zero in absurd (cc)
+same_live_refusal study _ _ (bus f room floats) (positive_passes large) = let small = room.positive in absurd (cc)
+same_live_refusal study _ _ (bus f room floats) (zero_passes fits large) = let small = room.zero in absurd (cc)
 same_live_refusal study _ _ (bus f room floats) (bus g room' floats') = same_bus (network_of study Positive) (length study.buses) f g floats floats'
 same_live_refusal study _ _ (bus f room floats) (scan g room' buses floats') = absurd (no_floating_bus study f buses floats)
-same_live_refusal study _ _ (scan f room buses floats) (positive_too_large large) = let small = room.positive in absurd (cc)
-same_live_refusal study _ _ (scan f room buses floats) (zero_too_large fits large) = let small = room.zero in absurd (cc)
+same_live_refusal study _ _ (scan f room buses floats) (positive_passes large) = let small = room.positive in absurd (cc)
+same_live_refusal study _ _ (scan f room buses floats) (zero_passes fits large) = let small = room.zero in absurd (cc)
 same_live_refusal study _ _ (scan f room buses floats) (bus g room' floats') = absurd (no_floating_bus study g buses floats')
 same_live_refusal study _ _ (scan f room buses floats) (scan g room' buses' floats') = same_scan (network_of study Zero) study.scans f g floats floats'

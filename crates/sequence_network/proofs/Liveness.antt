@@ -16,7 +16,7 @@ use Rattle.sequence_network.specs.Networks.{expansion_of, with_elements, bus_nod
 use Rattle.sequence_network.specs.Refusals.{IsLiveScan, IsFloatingBus, IsFloatingScan, AreLiveBuses, IsLiveRefusal, HasLiveNetworks}
 use Rattle.sequence_network.specs.Refusals.IsFloatingBus.{floating_bus}
 use Rattle.sequence_network.specs.Refusals.IsFloatingScan.{floating_scan}
-use Rattle.sequence_network.specs.Refusals.IsLiveRefusal.{positive_too_large, zero_too_large, bus, scan}
+use Rattle.sequence_network.specs.Refusals.IsLiveRefusal.{positive_passes, zero_passes, bus, scan}
 
 -- an element at a place
 pub some_at : {A : Type 0} (P : A → Type 0) (xs : List A) (i : ℕ) (x : A) → i < length xs → x ≡ get_or xs i x → P x → IsSomeAnd (slice_get xs i) P
@@ -39,8 +39,8 @@ no_floating_scan : (study : Study) (fault : StudyFault) → All (IsLiveScan (net
 no_floating_scan study _ h (floating_scan n dead before) = not_all (IsLiveScan (network_of study Zero)) study.scans n h dead
 
 pub no_refusal : (study : Study) → HasLiveNetworks study → (fault : StudyFault) → IsLiveRefusal study fault → ⊥
-no_refusal study h _ (positive_too_large e) = let room = h.room.positive in absurd (cc)
-no_refusal study h _ (zero_too_large e f) = let room = h.room.zero in absurd (cc)
+no_refusal study h _ (positive_passes e) = let room = h.room.positive in absurd (cc)
+no_refusal study h _ (zero_passes e f) = let room = h.room.zero in absurd (cc)
 no_refusal study h _ (bus fault room f) = no_floating_bus study fault h.buses f
 no_refusal study h _ (scan fault room live f) = no_floating_scan study fault h.scans f
 
@@ -57,7 +57,7 @@ buses_of study sequence = same_buses study sequence (bus_nodes study) 1 (element
 pub buses_within : (study : Study) (sequence : Sequence) (n : Network) → n ≡ network_of study sequence → n.buses ≤ n.nodes → length study.buses ≤ n.nodes
 buses_within study sequence n e h = omega (arith, ap (λ (m : Network). m.buses) e, buses_of study sequence)
 
-pub scans_within : (study : Study) (scans : List ScanItem) (nodes : ℕ) → scans ≡ study.scans → All (IsLawfulScan study.model study.buses) study.scans → length study.buses ≤ nodes → All (λ s. s.bus < nodes) scans
+pub scans_within : (study : Study) (scans : List ScanItem) (nodes : ℕ) → scans ≡ study.scans → All (IsLawfulScan study.version study.model study.buses) study.scans → length study.buses ≤ nodes → All (λ s. s.bus < nodes) scans
 scans_within study scans nodes e all h = subst (λ (l : List ScanItem). All (λ s. s.bus < nodes) l) (sym e) (λ k d l. let lawful = all k d l in omega (arith, lawful.bus))
 
 -- refusals of one network as those of another

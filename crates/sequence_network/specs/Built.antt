@@ -8,7 +8,7 @@ use Rattle.net_branch.specs.declared.network.Network.{Network}
 use Rattle.study_model.specs.declared.words.Sequence.{Sequence}
 use Rattle.study_model.specs.declared.records.Study.{Study}
 use Rattle.element_parts.specs.Small.{HaveSmallLaws}
-use Rattle.element_parts.specs.Expansion.{is_too_large}
+use Rattle.element_parts.specs.Expansion.{passes_limits}
 use Rattle.sequence_network.specs.Networks.{network_of}
 use Rattle.sequence_network.specs.Owners.{OwnTheirBranches}
 
@@ -17,7 +17,7 @@ use Rattle.sequence_network.specs.Owners.{OwnTheirBranches}
 pub record IsNetworkOf (study : Study) (sequence : Sequence) (network : Network) : Type 0 where
   pub exact : exact_network network ≡ network_of study sequence
   pub whole : IsWholeNetwork network
-  pub fits : IsFalse (is_too_large (network_of study sequence))
+  pub fits : IsFalse (passes_limits (network_of study sequence))
   pub small : HaveSmallLaws (network_of study sequence).branches
   pub uncoupled : AllByRecursion IsUncoupled (network_of study sequence).branches
   pub owners : OwnTheirBranches study sequence

@@ -10,7 +10,7 @@ use Rattle.study_model.specs.declared.fault.StudyFault.{StudyFault}
 use Rattle.study_model.specs.declared.fault.StudyFault.TheVariants.{TooMany, Floating}
 use Rattle.study_model.specs.declared.records.ScanItem.{ScanItem}
 use Rattle.study_model.specs.declared.records.Study.{Study}
-use Rattle.element_parts.specs.Expansion.{is_too_large}
+use Rattle.element_parts.specs.Expansion.{passes_limits}
 use Rattle.sequence_network.specs.Networks.{network_of}
 
 -- the place of a network
@@ -39,17 +39,17 @@ pub data IsFloatingScan (zero : Network) (scans : List ScanItem) : StudyFault �
 
 -- both networks are within the limits
 pub record HaveRoom (study : Study) : Type 0 where
-  pub positive : IsFalse (is_too_large (network_of study Positive))
-  pub zero : IsFalse (is_too_large (network_of study Zero))
+  pub positive : IsFalse (passes_limits (network_of study Positive))
+  pub zero : IsFalse (passes_limits (network_of study Zero))
 
 -- every bus is live in the positive network
 abbrev pub AreLiveBuses : Study → Type 0
 AreLiveBuses study = (n : ℕ) → n < length study.buses → Live (network_of study Positive) n
 
--- The first refusal in this order: the positive network is too large, the zero network is, a bus isn't live, the bus of a zero scan isn't.
+-- The first refusal in this order: the positive network passes the limits, the zero network does, a bus isn't live, the bus of a zero scan isn't.
 pub data IsLiveRefusal (study : Study) : StudyFault → Type 0 where
-  positive_too_large : IsTrue (is_too_large (network_of study Positive)) → IsLiveRefusal study (TooMany network_place)
-  zero_too_large : IsFalse (is_too_large (network_of study Positive)) → IsTrue (is_too_large (network_of study Zero)) → IsLiveRefusal study (TooMany network_place)
+  positive_passes : IsTrue (passes_limits (network_of study Positive)) → IsLiveRefusal study (TooMany network_place)
+  zero_passes : IsFalse (passes_limits (network_of study Positive)) → IsTrue (passes_limits (network_of study Zero)) → IsLiveRefusal study (TooMany network_place)
   bus : (fault : StudyFault) → HaveRoom study → IsFloatingBus (network_of study Positive) (length study.buses) fault → IsLiveRefusal study fault
   scan : (fault : StudyFault) → HaveRoom study → AreLiveBuses study → IsFloatingScan (network_of study Zero) study.scans fault → IsLiveRefusal study fault
 

@@ -2,7 +2,7 @@
 ghost use Rattle.std.specs.Prelude.{◌≢◌, IsTrue, IfOk, IfErr};
 ghost use Rattle.study_model.specs.Lawful.{IsLawful};
 ghost use Rattle.net_branch.specs.declared.fault.AddFault.TheVariants.{NoMemory};
-ghost use Rattle.element_parts.specs.Expansion.{is_too_large};
+ghost use Rattle.element_parts.specs.Expansion.{passes_limits};
 ghost use Rattle.sequence_network.specs.Networks.{network_of};
 ghost use Rattle.sequence_network.specs.Built.{IsNetworkOf};
 
@@ -17,7 +17,7 @@ use study_model::{Sequence, Study};
 pub fn build_sequence(alloc: Global, study: &Study, sequence: Sequence) -> Result<Network, AddFault>
     requires { IsLawful study.now }
     ensures network { IfOk result (IsNetworkOf study.now sequence) }
-    ensures too_many { IfErr result (λ fault. fault ≢ NoMemory → IsTrue (is_too_large (network_of study.now sequence))) }
+    ensures too_many { IfErr result (λ fault. fault ≢ NoMemory → IsTrue (passes_limits (network_of study.now sequence))) }
 {
     let buses = study.buses.len() as u32;
     let Ok(mut network) = new_network(alloc, buses) else {

@@ -7,7 +7,7 @@ ghost use Rattle.study_model.specs.declared.fault.StudyFault.{StudyFault};
 ghost use Rattle.study_model.specs.declared.fault.StudyFault.TheVariants.{TooMany, NoMemory};
 ghost use Rattle.net_branch.specs.Exact.{exact_network};
 ghost use Rattle.net_branch.specs.LiveNodes.{AreLive};
-ghost use Rattle.element_parts.specs.Expansion.{is_too_large};
+ghost use Rattle.element_parts.specs.Expansion.{passes_limits};
 ghost use Rattle.sequence_network.specs.Networks.{network_of};
 ghost use Rattle.sequence_network.specs.Built.{IsNetworkOf};
 ghost use Rattle.sequence_network.specs.Refusals.{network_place, bus_place, scan_place, IsLiveScan, IsFloatingBus, IsFloatingScan, IsLiveRefusal, HasLiveNetworks};
@@ -29,7 +29,7 @@ fn network(alloc: Global, study: &Study, sequence: Sequence) -> Result<Network, 
     requires { IsLawful study.now }
     ensures network { IfOk result (IsNetworkOf study.now sequence) }
     ensures place { IfErr result (λ fault. fault ≢ NoMemory → fault ≡ TooMany network_place) }
-    ensures too_many { IfErr result (λ fault. fault ≢ NoMemory → IsTrue (is_too_large (network_of study.now sequence))) }
+    ensures too_many { IfErr result (λ fault. fault ≢ NoMemory → IsTrue (passes_limits (network_of study.now sequence))) }
 {
     match build_sequence(alloc, study, sequence) {
         Ok(network) => Ok(network),

@@ -36,7 +36,7 @@ module _ (n : ℕ) (places : List Spot) (pattern : Places) (matrix : Square) (vi
       → ZeroOutside gaps xs
   zero_source gaps cells sides xs bench zero rows square q out =
       let at_none : (a b : ℕ) → a < n → b < n → IsNoPlace places a b → entry matrix.rows a b ≡ Some nought_rectangle = λ a b la lb none.
-          zero a b (subst (λ m. a < m) (sym same_size) la) (subst (λ m. b < m) (sym same_size) lb) (subst (λ ps. IsNoPlace ps a b) (ap (λ (p : Places). p.places) view) none) in
+      zero a b (subst (λ m. a < m) (sym same_size) la) (subst (λ m. b < m) (sym same_size) lb) (subst (λ ps. IsNoPlace ps a b) (ap (λ (p : Places). p.places) view) none) in
       let square' : length xs ≡ n * n = square ∙ ap (λ m. m * m) same_size in
       let rows' = rows_same xs rows in
       by_lt q (n * n)

@@ -1,12 +1,14 @@
 -- What a lawful study is, key by key.
-use Rattle.std.specs.Prelude.{◌≡◌, ◌≢◌, ◌⊎◌, ℕ, pos, ◌<◌, ◌≤◌, ◌≤ℤ◌, ◌<ℤ◌, ◌-ℤ◌, ◌*ℤ◌, IsTrue, List, length, codes, slice_get, option_map, All, AllPairs}
+use Rattle.std.specs.Prelude.{◌≡◌, ◌≢◌, ◌⊎◌, ℕ, ℤ, pos, unsigned_abs, ◌<◌, ◌≤◌, ◌≤ℤ◌, ◌<ℤ◌, ◌-ℤ◌, ◌*ℤ◌, IsTrue, List, Option, Some, None, length, codes, slice_get, option_map, All, AllPairs}
 use Rattle.study_model.specs.NameText.{is_name}
 use Rattle.study_model.specs.Range.{IsIn}
+use Rattle.study_model.specs.Curve.{curve_points, curve_of, flat_points, IsLawfulCurve, Spans}
 use Rattle.study_model.specs.Rules.{AreNotBothZero, IsZeroSequence, HasZeroSequence, AreMutual, IsNeutral, IsPower, IsImpedance, IsElementPhase, IsScanned}
 use Rattle.study_model.specs.Elements.{Touches, names_of}
 use Rattle.study_model.specs.declared.limits.TheConstants.{MAX_BUSES, MAX_ELEMENTS, MAX_SCANS, MAX_POINTS, MAX_SECTIONS, MAX_WIDTHS}
 use Rattle.study_model.specs.declared.range.TheConstants.Range.{ORDINARY, ABOVE_ZERO, BASE_MVA, HERTZ, ROOT3, BUS_KV, SKIN_K, SKIN_M, RESISTANCE_PERCENT, REACTANCE_PERCENT, RATIO, TUNED_ORDER, QUALITY, BAND, FINEST, LOCATE, AMPERES}
 use Rattle.study_model.specs.declared.words.StudyModel.{StudyModel}
+use Rattle.study_model.specs.declared.curve.Curve.{Curve}
 use Rattle.study_model.specs.declared.records.Bus.{Bus}
 use Rattle.study_model.specs.declared.records.Source.{Source}
 use Rattle.study_model.specs.declared.records.Line.{Line}
@@ -98,14 +100,20 @@ pub record IsLawfulFilter (model : StudyModel) (buses : List Bus) (filter : Filt
   pub quality : IsIn QUALITY filter.quality
   pub phase : IsElementPhase model filter.phase
 
--- a scan: its network, a band that is not too many finest widths wide, and a threshold in ohms
-pub record IsLawfulScan (model : StudyModel) (buses : List Bus) (scan : ScanItem) : Type 0 where
+-- the threshold of a scan: in version 1 ohms, with their flat curve, and in version 2 a curve alone
+abbrev pub IsThreshold : ℕ → Option ℤ → Curve → Type 0
+IsThreshold version (Some ohms) curve = (version ≡ 1) × IsIn ABOVE_ZERO ohms × (curve ≡ curve_of (flat_points (unsigned_abs ohms)))
+IsThreshold version None curve = version ≡ 2
+
+-- a scan: its network, a band that is not too many finest widths wide, and a threshold that reaches over the band
+pub record IsLawfulScan (version : ℕ) (model : StudyModel) (buses : List Bus) (scan : ScanItem) : Type 0 where
   pub name : IsName scan.name × (scan.name ≢ codes "limits")
   pub bus : IsBus buses scan.bus
   pub network_phase : IsScanned model scan.network scan.phase
   pub from : IsIn BAND scan.from
   pub to : IsIn BAND scan.to × (scan.from <ℤ scan.to)
-  pub threshold : IsIn ABOVE_ZERO scan.threshold
+  pub threshold : IsThreshold version scan.threshold scan.curve
+  pub curve : IsLawfulCurve scan.curve × Spans (curve_points scan.curve) scan.from scan.to
   pub finest : IsIn FINEST scan.finest × ((scan.to -ℤ scan.from) ≤ℤ (pos MAX_WIDTHS *ℤ scan.finest))
   pub locate : IsIn LOCATE scan.locate × (scan.finest ≤ℤ scan.locate)
 
@@ -119,7 +127,7 @@ pub record IsLawfulPcc (study : Study) (point : Pcc) : Type 0 where
 
 -- The header, then each section's count and entries, then the names, which differ over all sections.
 pub record IsLawful (study : Study) : Type 0 where
-  pub version : study.version ≡ 1
+  pub version : (study.version ≡ 1) ⊎ (study.version ≡ 2)
   pub mva : IsIn BASE_MVA study.mva
   pub hz : IsIn HERTZ study.hz
   pub scale : (study.scale ≡ 40) ⊎ (study.scale ≡ 48)
@@ -139,7 +147,7 @@ pub record IsLawful (study : Study) : Type 0 where
   pub filters_count : length study.filters ≤ MAX_ELEMENTS
   pub filters : All (IsLawfulFilter study.model study.buses) study.filters
   pub scans_count : length study.scans ≤ MAX_SCANS
-  pub scans : All (IsLawfulScan study.model study.buses) study.scans
+  pub scans : All (IsLawfulScan study.version study.model study.buses) study.scans
   pub points_count : length study.points ≤ MAX_POINTS
   pub points : All (IsLawfulPcc study) study.points
   pub names : AllPairs ◌≢◌ (names_of study)

@@ -4,6 +4,7 @@ pub mod Words
 pub mod ValueWords
 pub mod Faults
 pub mod Range
+pub mod Curve
 pub mod Rules
 pub mod Voltages
 pub mod Elements

@@ -1,5 +1,6 @@
--- Worked studies: one of a single bus, and a plant with entries in every section.
+-- Worked studies: one of a single bus, the same with a curve, and a plant with entries in every section.
 use Rattle.std.specs.Prelude.{ℕ, ℤ, pos, false, true, [], ◌∷◌, codes, Some, None}
+use Rattle.study_model.specs.Curve.{curve_of, flat_points}
 use Rattle.study_model.specs.declared.words.StudyModel.TheVariants as study_model
 use Rattle.study_model.specs.declared.words.Method.TheVariants as method
 use Rattle.study_model.specs.declared.words.Sequence.TheVariants as sequence
@@ -27,7 +28,7 @@ worked_source = record { name = codes "S1"; bus = 0; r = pos 0; x = pos 1000000;
 
 -- from order 1 to an order in millionths, threshold 20 ohms, finest width 0.001
 abbrev pub worked_scan : ℤ → ScanItem
-worked_scan to = record { name = codes "s1"; bus = 0; network = sequence.Positive; phase = None; from = pos 1000000; to = to; threshold = pos 20000000; finest = pos 1000; locate = pos 1000 }
+worked_scan to = record { name = codes "s1"; bus = 0; network = sequence.Positive; phase = None; from = pos 1000000; to = to; threshold = Some (pos 20000000); curve = curve_of (flat_points 20000000); finest = pos 1000; locate = pos 1000 }
 
 abbrev pub worked_study : ℤ → Study
 worked_study to = record {
@@ -47,6 +48,16 @@ worked_study to = record {
   filters = [];
   scans = worked_scan to ∷ [];
   points = [];
+}
+
+-- a study of version 2: from order 1 to 10, a threshold from 2 ohms at order 1 to 20 ohms at an order in millionths
+abbrev pub worked_curved : ℕ → Study
+worked_curved last = record (worked_study (pos 10000000)) {
+  version = 2;
+  scans = record (worked_scan (pos 10000000)) {
+    threshold = None;
+    curve = curve_of (record { at = 1000000; ohms = 2000000 } ∷ record { at = last; ohms = 20000000 } ∷ []);
+  } ∷ [];
 }
 
 -- a line of two sections between buses 1 and 2

@@ -90,6 +90,8 @@ pub enum Key {
     Quality,
     Network,
     Threshold,
+    CurveAt,
+    CurveOhms,
     Finest,
     Locate,
     Element,
@@ -104,7 +106,7 @@ impl Key {
     /// The word as it is written.
     pub fn text(self) -> &'static str
         ensures word { result.now ≡ key_text self }
-        ensures len { length result.now ≤ 9 }
+        ensures len { length result.now ≤ 10 }
     {
         match self {
             Key::Nothing => "-",
@@ -148,6 +150,8 @@ impl Key {
             Key::Quality => "quality",
             Key::Network => "network",
             Key::Threshold => "threshold",
+            Key::CurveAt => "curve_at",
+            Key::CurveOhms => "curve_ohms",
             Key::Finest => "finest",
             Key::Locate => "locate",
             Key::Element => "element",
@@ -171,8 +175,8 @@ pub enum StudyFault {
     /// The bytes are no TOML document.
     #[error("the bytes are no TOML document")]
     NotToml,
-    /// `version` is a whole number other than 1.
-    #[error("the version is not 1")]
+    /// `version` is a whole number other than 1 and 2.
+    #[error("the version is neither 1 nor 2")]
     VersionUnknown,
     /// A required key, section or entry is absent.
     #[error("a required key, section or entry is absent")]

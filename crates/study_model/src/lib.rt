@@ -1,6 +1,7 @@
 // What a study is made of: names, words, records, and the places and faults of a refusal.
 #![tactic(auto)]
 
+mod curve;
 mod fault;
 mod limits;
 mod name;
@@ -9,6 +10,7 @@ mod records;
 mod words;
 mod worked;
 
+pub use curve::{Curve, CurvePoint, MAX_CURVE_POINTS};
 pub use fault::{Key, Place, Section, StudyFault};
 pub use limits::{
     MAX_ALL_ELEMENTS, MAX_BUSES, MAX_ELEMENTS, MAX_NAMES, MAX_POINTS, MAX_SCANS, MAX_SECTIONS,
@@ -18,4 +20,4 @@ pub use name::{MAX_NAME_LEN, Name};
 pub use range::Range;
 pub use records::{Bank, Bus, Filter, Line, Load, Pcc, ScanItem, Source, Study, Transformer};
 pub use words::{Connection, FilterKind, LoadModel, Method, Phase, Sequence, StudyModel};
-pub use worked::{worked_plant_is_lawful, worked_study_is_lawful};
+pub use worked::{worked_curve_is_lawful, worked_plant_is_lawful, worked_study_is_lawful};

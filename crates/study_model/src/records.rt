@@ -1,4 +1,5 @@
 // The records of a study, one field a key. A decimal is in the key's own unit; a bus is its number from 0.
+use crate::curve::Curve;
 use crate::name::Name;
 use crate::words::{Connection, FilterKind, LoadModel, Method, Phase, Sequence, StudyModel};
 use fixed_decimal::Decimal;
@@ -101,7 +102,8 @@ pub struct Filter {
     pub phase: Option<Phase>,
 }
 
-/// A scan of a band of orders at a bus: orders and widths, and a threshold in ohms.
+/// A scan of a band of orders at a bus: orders and widths, and its threshold over the orders. Where the threshold is one
+/// number of ohms, as in a study of version 1, that stands beside its flat curve.
 #[derive(Clone, Copy)]
 pub struct ScanItem {
     pub name: Name,
@@ -110,7 +112,8 @@ pub struct ScanItem {
     pub phase: Option<Phase>,
     pub from: Decimal,
     pub to: Decimal,
-    pub threshold: Decimal,
+    pub threshold: Option<Decimal>,
+    pub curve: Curve,
     pub finest: Decimal,
     pub locate: Decimal,
 }

@@ -1,12 +1,22 @@
 // Worked cases of the definition of a lawful study.
 ghost use Rattle.std.specs.Prelude.{pos};
 ghost use Rattle.study_model.specs.Lawful.{IsLawful};
-ghost use Rattle.study_model.specs.Worked.{worked_study, worked_plant};
+ghost use Rattle.study_model.specs.Worked.{worked_study, worked_curved, worked_plant};
 
 /// A study of one bus, one source and one scan is lawful, and is not where its band ends at the order at which it begins.
+#[tactic(auto, using(crate::proofs::WorkedScans::scan_lawful))]
 pub fn worked_study_is_lawful()
     ensures lawful { IsLawful (worked_study (pos 10_000_000)) }
     ensures no_band { ¬ (IsLawful (worked_study (pos 1_000_000))) }
+{}
+
+/// A study of version 2 is lawful with a curve that rises to the end of its band, and is not where the curve ends before it, or
+/// where its second point is at the order of the first.
+#[tactic(auto, using(crate::proofs::Curves::two_lawful))]
+pub fn worked_curve_is_lawful()
+    ensures lawful { IsLawful (worked_curved 10_000_000) }
+    ensures shorter { ¬ (IsLawful (worked_curved 9_999_999)) }
+    ensures level { ¬ (IsLawful (worked_curved 1_000_000)) }
 {}
 
 /// A plant with entries in every section is lawful with a point at the transformer, and not with one at the source or past the last element.

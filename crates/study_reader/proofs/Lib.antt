@@ -4,6 +4,8 @@ pub mod EntryNames
 pub mod Fresh
 pub mod PlantElements
 pub mod Sound
+pub mod CurveSteps
+pub mod SoundCurves
 pub mod SoundEntries
 pub mod Parts
 pub mod Refusals

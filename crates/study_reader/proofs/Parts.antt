@@ -1,5 +1,5 @@
 -- A study whose checks find no fault is lawful.
-use Rattle.study_model.specs.ValueWords.{study_model_of}
+use Rattle.study_model.specs.ValueWords.{study_model_of, method_of}
 use Rattle.std.proofs.Common.{◌≡◌, ◌≢◌, ◌≤◌, ◌+◌, ◌-◌, ◌++◌, ◌⊎◌, ⊎_elim, ℕ, pos, zero, suc, map, true, false, nat_le, List, [], ◌∷◌, Option, Some, None, length, refl, ap, arith, subst, sym, All, AllPairs, Contains, IsSomeAnd, slice_get, append_assoc}
 use Rattle.std.proofs.lemmas.Bool.Decides.{nat_tests}
 use Rattle.std.proofs.lemmas.Int.{ints}
@@ -31,7 +31,7 @@ use Rattle.study_reader.specs.Branches.{line_entry_fault, line_entry, transforme
 use Rattle.study_reader.specs.Checks.{first_fault, unless, place_of, name_value, at, decimal_fault, default_fault, version_fault, scale_fault, word_fault, keys_fault}
 use Rattle.study_reader.specs.Entries.{bus_entry_fault, bus_entry, source_entry_fault, source_entry, bank_entry_fault, bank_entry, filter_entry_fault, filter_entry, scan_entry_fault, scan_entry}
 use Rattle.study_reader.proofs.EntryNames.{bus_named, source_named, line_named, transformer_named, load_named, bank_named, filter_named, scan_named, point_named}
-use Rattle.study_reader.specs.Header.{header_fault, header_value, study_section_fault, study_section_value, built_method_of, study_keys}
+use Rattle.study_reader.specs.Header.{header_fault, header_value, study_section_fault, study_section_value, study_keys}
 use Rattle.study_reader.specs.Lawful.{IsFresh, Ends, IsLawfulHeader, IsLawfulPoint, IsLawfulPlant, names_in}
 use Rattle.study_reader.specs.Loads.{load_entry_fault, load_entry}
 use Rattle.study_reader.specs.Points.{point_entry_fault, point_entry}
@@ -42,7 +42,7 @@ use Rattle.study_reader.specs.declared.context.Context.{Context}
 use Rattle.study_reader.specs.declared.study.Plant.{Plant}
 use Rattle.study_reader.proofs.Fresh.{distinct_push}
 use Rattle.study_reader.proofs.PlantElements.{named}
-use Rattle.study_reader.proofs.Sound.{no_fault, passed, decimal_sound, default_sound, scale_sound}
+use Rattle.study_reader.proofs.Sound.{no_fault, passed, decimal_sound, default_sound, version_sound, scale_sound}
 use Rattle.study_reader.proofs.SoundEntries.{bus_lawful, source_lawful, line_lawful, transformer_lawful, load_lawful, bank_lawful, filter_lawful, scan_lawful, point_lawful}
 
 -- ---- a section
@@ -158,8 +158,9 @@ unfolding study_section_fault study_section_value header_fault header_value
 header_sound None e = absurd (cc)
 header_sound (Some d) e =
     let place = place_of section.Study 1 key.Nothing in
-    let checks = no_fault (keys_fault (place_of section.Study 0 key.Nothing) place study_keys d ∷ version_fault place d ∷ decimal_fault place key.Mva BASE_MVA d ∷ default_fault place key.Hz HERTZ d ∷ word_fault place key.Model false study_model_of d ∷ scale_fault place d ∷ word_fault place key.Method false built_method_of d ∷ default_fault place key.Root3 ROOT3 d ∷ []) e in
+    let checks = no_fault (keys_fault (place_of section.Study 0 key.Nothing) place study_keys d ∷ version_fault place d ∷ decimal_fault place key.Mva BASE_MVA d ∷ default_fault place key.Hz HERTZ d ∷ word_fault place key.Model false study_model_of d ∷ scale_fault place d ∷ word_fault place key.Method false method_of d ∷ default_fault place key.Root3 ROOT3 d ∷ []) e in
     record {
+      version = version_sound place d (checks 1);
       mva = decimal_sound place key.Mva BASE_MVA d (checks 2);
       hz = default_sound place key.Hz HERTZ (pos 50000000) d (checks 3) (omega (arith, ints), omega (arith, ints));
       scale = scale_sound place d (checks 5);
@@ -190,7 +191,7 @@ touched (e ∷ es) bus zero h = covers e bus h
 touched (e ∷ es) bus (suc n) h = touched es bus n h
 
 -- a point that reaches an element touches it
-touches : (study : Study) (point : Pcc) → IsLawfulPoint (record { model = study.model; buses = study.buses; elements = map ends_of (elements_of study) }) point → IsLawfulPcc study point
+touches : (study : Study) (point : Pcc) → IsLawfulPoint (record { version = study.version; model = study.model; buses = study.buses; elements = map ends_of (elements_of study) }) point → IsLawfulPcc study point
 touches study point q = record {
   name = q.name;
   bus = q.bus;
@@ -215,11 +216,11 @@ lawful_study document e =
     let header = header_sound (section_in section.Study document) (checks 0) in
     let buses = section_sound bus_entry_fault (bus_entry before) IsLawfulBus (λ (s : Bus). s.name) some_buses before (bus_lawful before) (bus_named before) [] document no_names (checks 1) in
     let p = plant_sound context bus_names document buses.distinct (checks 2) in
-    let scans = section_sound scan_entry_fault (scan_entry context) (IsLawfulScan context.model context.buses) (λ (s : ScanItem). s.name) (at_most section.Scan MAX_SCANS) context (scan_lawful context) (scan_named context) all_names document p.distinct (checks 3) in
+    let scans = section_sound scan_entry_fault (scan_entry context) (IsLawfulScan context.version context.model context.buses) (λ (s : ScanItem). s.name) (at_most section.Scan MAX_SCANS) context (scan_lawful context header.version) (scan_named context) all_names document p.distinct (checks 3) in
     let points = section_sound point_entry_fault (point_entry whole) (IsLawfulPoint whole) (λ (s : Pcc). s.name) (at_most section.Pcc MAX_POINTS) whole (point_lawful whole) (point_named whole) (all_names ++ section_names section.Scan document) document scans.distinct (checks 4) in
     let of_buses : bus_names ≡ map (λ (s : Bus). s.name) (section_value (bus_entry before) section.Bus document) = buses.named in
     record {
-      version = refl;
+      version = header.version;
       mva = header.mva;
       hz = header.hz;
       scale = header.scale;

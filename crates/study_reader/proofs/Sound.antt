@@ -18,11 +18,11 @@ use Rattle.study_model.specs.declared.fault.Place.{Place}
 use Rattle.study_model.specs.declared.fault.Key.{Key}
 use Rattle.study_model.specs.declared.fault.Key.TheVariants as key
 use Rattle.study_model.specs.declared.fault.StudyFault.{StudyFault}
-use Rattle.study_model.specs.declared.fault.StudyFault.TheVariants.{UnknownKey, OutOfRange, BadName, DuplicateName, UnknownBus, UnknownElement}
+use Rattle.study_model.specs.declared.fault.StudyFault.TheVariants.{VersionUnknown, UnknownKey, OutOfRange, BadName, DuplicateName, UnknownBus, UnknownElement}
 use Rattle.study_model.specs.declared.limits.TheConstants.{MAX_SECTIONS}
 use Rattle.study_model.specs.declared.range.Range.{Range}
 use Rattle.study_model.specs.declared.records.Bus.{Bus}
-use Rattle.study_reader.specs.Checks.{first_fault, unless, key_of, at, has, stray_fault, range_fault, decimal_check, millionths_of, decimal_in, decimal_found, optional_fault, decimal_fault, default_fault, option_value, decimal_or, decimal_value, is_zero, both_zero_fault, AreNotBothGivenZero, scale_found, scale_fault, scale_value, whole_in, sections_found, sections_fault, sections_value, word_found, word_fault, word_in, word_value, name_at, name_found, name_fault, name_value, text_in, reserved_found, reserved_fault, bus_at, bus_found, bus_fault, bus_value}
+use Rattle.study_reader.specs.Checks.{first_fault, unless, key_of, at, has, stray_fault, range_fault, decimal_check, millionths_of, decimal_in, decimal_found, optional_fault, decimal_fault, default_fault, option_value, decimal_or, decimal_value, is_zero, both_zero_fault, AreNotBothGivenZero, version_found, version_fault, version_value, scale_found, scale_fault, scale_value, whole_in, sections_found, sections_fault, sections_value, word_found, word_fault, word_in, word_value, name_at, name_found, name_fault, name_value, text_in, reserved_found, reserved_fault, bus_at, bus_found, bus_fault, bus_value}
 use Rattle.study_reader.specs.Points.{element_at, element_found, element_fault, element_value}
 use Rattle.study_reader.specs.Lawful.{IsFresh, Reaches}
 use Rattle.study_reader.specs.declared.context.Element.{Element}
@@ -52,7 +52,7 @@ in_range place range (Some d) e =
     let both = and_parts (int_le range.low d) (int_le d range.high) (passed (int_le range.low d && int_le d range.high) (OutOfRange place) e) in
     (at_most_of range.low d both.0, at_most_of d range.high both.1)
 
-checked : (place : Place) (range : Range) (d : Data) → decimal_check place range d ≡ None → IsIn range (decimal_in d)
+pub checked : (place : Place) (range : Range) (d : Data) → decimal_check place range d ≡ None → IsIn range (decimal_in d)
 checked place range (string text) e = in_range place range (result_ok (decimal_of text)) e
 checked place range (integer n) e = in_range place range (result_ok (whole_decimal_of n)) e
 checked place range (float x) e = absurd (cc)
@@ -156,6 +156,25 @@ scale_either place (Some (table ms)) e = absurd (cc)
 pub scale_sound : (place : Place) (entry : Data) → scale_fault place entry ≡ None → (scale_value entry ≡ 40) ⊎ (scale_value entry ≡ 48)
 unfolding scale_fault scale_value
 scale_sound place entry e = scale_either (key_of place key.Scale) (at key.Scale entry) e
+
+one_or_two : (n : ℕ) (test test' : Bool) → (test || test') ≡ true → nat_eq n 1 ≡ test → nat_eq n 2 ≡ test' → (n ≡ 1) ⊎ (n ≡ 2)
+one_or_two n test test' e h k = grind (arith, nat_tests)
+
+version_either : (place : Place) (o : Option Data) → version_found place o ≡ None → (whole_in 1 o ≡ 1) ⊎ (whole_in 1 o ≡ 2)
+version_either place None e = absurd (cc)
+version_either place (Some (integer (pos n))) e = one_or_two n (nat_eq n 1) (nat_eq n 2) (passed (nat_eq n 1 || nat_eq n 2) VersionUnknown e) refl refl
+version_either place (Some (integer (negsuc n))) e = absurd (cc)
+version_either place (Some (string text)) e = absurd (cc)
+version_either place (Some (float x)) e = absurd (cc)
+version_either place (Some (boolean b)) e = absurd (cc)
+version_either place (Some (datetime t)) e = absurd (cc)
+version_either place (Some (array ds)) e = absurd (cc)
+version_either place (Some (table ms)) e = absurd (cc)
+
+-- the version is 1 or 2
+pub version_sound : (place : Place) (entry : Data) → version_fault place entry ≡ None → (version_value entry ≡ 1) ⊎ (version_value entry ≡ 2)
+unfolding version_fault version_value
+version_sound place entry e = version_either (key_of place key.Version) (at key.Version entry) e
 
 counted : (n : ℤ) → pos 1 ≤ℤ n → n ≤ℤ pos MAX_SECTIONS → (1 ≤ unsigned_abs n) × (unsigned_abs n ≤ MAX_SECTIONS)
 counted n least most = (omega (arith, ints, least, most), omega (arith, ints, least, most))

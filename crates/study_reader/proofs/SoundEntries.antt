@@ -1,5 +1,5 @@
 -- An entry whose checks find no fault is lawful, and no earlier entry has its name.
-use Rattle.std.proofs.Common.{◌≡◌, ◌≢◌, ◌∙◌, ◌&&◌, ◌||◌, ℕ, ℤ, pos, Bool, true, false, not, nat_eq, List, [], ◌∷◌, Option, Some, None, refl, arith, sym, ap, codes}
+use Rattle.std.proofs.Common.{◌≡◌, ◌≢◌, ◌∙◌, ◌⊎◌, ◌&&◌, ◌||◌, ℕ, ℤ, pos, Bool, true, false, not, nat_eq, List, [], ◌∷◌, Option, Some, None, refl, arith, sym, ap, codes}
 use Rattle.std.specs.Prelude.{IfSome, is_some, unwrap_or, int_le, int_lt, ◌≤ℤ◌, ◌<ℤ◌, ◌-ℤ◌, ◌*ℤ◌}
 use Rattle.std.specs.Ordering.{int_eq}
 use Rattle.std.proofs.lemmas.Bool.{and_parts}
@@ -24,12 +24,14 @@ use Rattle.study_model.specs.declared.words.Sequence.TheVariants as sequence
 use Rattle.study_reader.specs.Checks.{has, option_value, decimal_value, decimal_or, name_value, bus_value, word_value, stray_fault, optional_fault, decimal_fault, default_fault, both_zero_fault, sections_fault, word_fault, flag_fault, name_fault, reserved_fault, bus_fault, keys_fault}
 use Rattle.study_reader.specs.Groups.{in_phases, impedance_fault, zero_sequence_fault, skin_fault, wiring_fault}
 use Rattle.study_reader.specs.Branches.{line_ends_fault, at_most_fault, has_mutual, mutual_fault, line_front_fault, line_entry_fault, line_entry, ends_fault, rating_fault, is_grounded, connection_at, neutral_fault, transformer_front_fault, transformer_entry_fault, transformer_entry, line_keys, transformer_keys}
-use Rattle.study_reader.specs.Entries.{bus_entry_fault, bus_entry, source_entry_fault, source_entry, bank_entry_fault, bank_entry, filter_entry_fault, filter_entry, scanned_fault, upwards_fault, widths_fault, locate_fault, band_fault, scan_entry_fault, scan_entry, bus_keys, source_keys, bank_keys, filter_keys, scan_keys}
+use Rattle.study_reader.specs.Entries.{bus_entry_fault, bus_entry, source_entry_fault, source_entry, bank_entry_fault, bank_entry, filter_entry_fault, filter_entry, scanned_fault, upwards_fault, widths_fault, locate_fault, band_fault, scan_entry_fault, scan_entry, bus_keys, source_keys, bank_keys, filter_keys, scan_keys_fault}
+use Rattle.study_reader.specs.Curves.{limit_fault}
 use Rattle.study_reader.specs.Loads.{is_series, power_range, part_fault, parts_fault, model_in, load_entry_fault, load_entry, load_keys}
 use Rattle.study_reader.specs.Points.{point_entry_fault, point_entry, element_fault, point_keys}
 use Rattle.study_reader.specs.Lawful.{IsFresh, IsLawfulPoint}
 use Rattle.study_reader.specs.declared.context.Context.{Context}
 use Rattle.study_reader.proofs.Rules.{zero_rule, has_zero_rule, mutual_rule, neutral_rule, power_rule, ohms_rule, phase_rule, scanned_rule, voltage_rule}
+use Rattle.study_reader.proofs.SoundCurves.{limit_sound}
 use Rattle.study_reader.proofs.Sound.{no_fault, passed, at_most_of, below_of, optional_sound, decimal_sound, default_sound, given_has, absent_default, stray_sound, zeros_sound, sections_sound, word_sound, name_sound, reserved_sound, bus_sound, element_sound}
 
 -- ---- keys that are read together
@@ -295,21 +297,27 @@ locate_sound place finest locate e = at_most_of finest locate (passed (int_le fi
 as_located : (d : ℤ) → IsIn FINEST d → IsIn LOCATE d
 as_located d h = let low = h.0 in let high = h.1 in (omega (arith, ints, low), high)
 
-pub scan_lawful : (context : Context) (earlier : List (List ℕ)) (place : Place) (d : Data) → scan_entry_fault context earlier place d ≡ None
-    → IsLawfulScan context.model context.buses (scan_entry context d) × IsFresh earlier (name_value d)
+pub scan_lawful : (context : Context) → (context.version ≡ 1) ⊎ (context.version ≡ 2) → (earlier : List (List ℕ)) (place : Place) (d : Data) → scan_entry_fault context earlier place d ≡ None
+    → IsLawfulScan context.version context.model context.buses (scan_entry context d) × IsFresh earlier (name_value d)
 unfolding scan_entry_fault band_fault scan_entry
-scan_lawful context earlier place d e =
-    let checks = no_fault (keys_fault place place scan_keys d ∷ reserved_fault place (codes "limits") d ∷ name_fault place earlier d ∷ bus_fault place key.Bus context.buses d ∷ scanned_fault context.model place d ∷ band_fault place d ∷ []) e in
-    let of_band = no_fault (decimal_fault place key.From BAND d ∷ decimal_fault place key.To BAND d ∷ upwards_fault place (decimal_value key.From d) (decimal_value key.To d) ∷ decimal_fault place key.Threshold ABOVE_ZERO d ∷ decimal_fault place key.Finest FINEST d ∷ widths_fault place (decimal_value key.From d) (decimal_value key.To d) (decimal_value key.Finest d) ∷ default_fault place key.Locate LOCATE d ∷ locate_fault place (decimal_value key.Finest d) (decimal_or (decimal_value key.Finest d) key.Locate d) ∷ []) (checks 5) in
+scan_lawful context versioned earlier place d e =
+    let from = decimal_value key.From d in
+    let to = decimal_value key.To d in
+    let checks = no_fault (scan_keys_fault context.version place d ∷ reserved_fault place (codes "limits") d ∷ name_fault place earlier d ∷ bus_fault place key.Bus context.buses d ∷ scanned_fault context.model place d ∷ band_fault context.version place d ∷ []) e in
+    let of_band = no_fault (decimal_fault place key.From BAND d ∷ decimal_fault place key.To BAND d ∷ upwards_fault place (decimal_value key.From d) (decimal_value key.To d) ∷ limit_fault context.version place from to d ∷ decimal_fault place key.Finest FINEST d ∷ widths_fault place (decimal_value key.From d) (decimal_value key.To d) (decimal_value key.Finest d) ∷ default_fault place key.Locate LOCATE d ∷ locate_fault place (decimal_value key.Finest d) (decimal_or (decimal_value key.Finest d) key.Locate d) ∷ []) (checks 5) in
     let named = name_sound place earlier d (checks 2) in
+    let begins = decimal_sound place key.From BAND d (of_band 0) in
+    let ends = decimal_sound place key.To BAND d (of_band 1) in
+    let limited = limit_sound context.version place from to d versioned begins ends (of_band 3) in
     let width = decimal_sound place key.Finest FINEST d (of_band 4) in (
       record {
         name = (named.0, reserved_sound place (codes "limits") d named.0 (checks 1));
         bus = bus_sound place key.Bus context.buses d (checks 3);
         network_phase = scanned_sound context.model place d (checks 4);
-        from = decimal_sound place key.From BAND d (of_band 0);
-        to = (decimal_sound place key.To BAND d (of_band 1), upwards_sound place (decimal_value key.From d) (decimal_value key.To d) (of_band 2));
-        threshold = decimal_sound place key.Threshold ABOVE_ZERO d (of_band 3);
+        from = begins;
+        to = (ends, upwards_sound place (decimal_value key.From d) (decimal_value key.To d) (of_band 2));
+        threshold = limited.threshold;
+        curve = limited.curve;
         finest = (width, widths_sound place (decimal_value key.From d) (decimal_value key.To d) (decimal_value key.Finest d) (of_band 5));
         locate = (default_sound place key.Locate LOCATE (decimal_value key.Finest d) d (of_band 6) (as_located (decimal_value key.Finest d) width), locate_sound place (decimal_value key.Finest d) (decimal_or (decimal_value key.Finest d) key.Locate d) (of_band 7));
       },

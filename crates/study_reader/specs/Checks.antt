@@ -130,15 +130,24 @@ AreNotBothGivenZero (Some a) None = Unit {0}
 AreNotBothGivenZero None b = Unit {0}
 
 -- ---- whole numbers
--- the whole number 1
+-- a whole number, or its default
+abbrev pub whole_in : ℕ → Option Data → ℕ
+whole_in default None = default
+whole_in default (Some (integer n)) = unsigned_abs n
+whole_in default (Some _) = default
+
+-- the whole number 1 or 2
 abbrev pub version_found : Place → Option Data → Option StudyFault
 version_found place None = Some (MissingKey place)
-version_found place (Some (integer (pos n))) = unless (nat_eq n 1) VersionUnknown
+version_found place (Some (integer (pos n))) = unless (nat_eq n 1 || nat_eq n 2) VersionUnknown
 version_found place (Some (integer (negsuc n))) = Some VersionUnknown
 version_found place (Some _) = Some (WrongKind place)
 
 unfoldable pub version_fault : Place → Data → Option StudyFault
 version_fault place entry = version_found (key_of place key.Version) (at key.Version entry)
+
+unfoldable pub version_value : Data → ℕ
+version_value entry = whole_in 1 (at key.Version entry)
 
 -- the whole number 40 or 48, which is 40 by default
 abbrev pub scale_found : Place → Option Data → Option StudyFault
@@ -149,11 +158,6 @@ scale_found place (Some _) = Some (WrongKind place)
 
 unfoldable pub scale_fault : Place → Data → Option StudyFault
 scale_fault place entry = scale_found (key_of place key.Scale) (at key.Scale entry)
-
-abbrev pub whole_in : ℕ → Option Data → ℕ
-whole_in default None = default
-whole_in default (Some (integer n)) = unsigned_abs n
-whole_in default (Some _) = default
 
 unfoldable pub scale_value : Data → ℕ
 scale_value entry = whole_in 40 (at key.Scale entry)

@@ -1,5 +1,5 @@
 -- The entries of each section: their checks, and the records that they stand for.
-use Rattle.std.specs.Prelude.{ℕ, ℤ, pos, ◌-ℤ◌, ◌*ℤ◌, int_lt, int_le, true, false, not, List, [], ◌∷◌, Option, unwrap_or, codes}
+use Rattle.std.specs.Prelude.{ℕ, ℤ, pos, ◌-ℤ◌, ◌*ℤ◌, int_lt, int_le, true, false, not, if◌then◌else◌, List, [], ◌∷◌, Option, unwrap_or, codes}
 use Rattle.toml.specs.Data.{Data}
 use Rattle.study_model.specs.ValueWords.{sequence_of, phase_of, filter_kind_of}
 use Rattle.study_model.specs.declared.fault.Place.{Place}
@@ -19,6 +19,7 @@ use Rattle.study_model.specs.declared.words.Sequence.TheVariants as sequence
 use Rattle.study_model.specs.declared.words.FilterKind.TheVariants as filter_kind
 use Rattle.study_reader.specs.Checks.{first_fault, key_of, unless, keys_fault, name_fault, name_value, reserved_fault, bus_fault, bus_value, decimal_fault, decimal_value, default_fault, decimal_or, option_value, flag_value, word_fault, word_value, stray_fault}
 use Rattle.study_reader.specs.Groups.{in_phases, impedance_fault, zero_sequence_fault, skin_fault, wiring_fault}
+use Rattle.study_reader.specs.Curves.{has_curves, limit_fault, limit}
 use Rattle.study_reader.specs.declared.context.Context.{Context}
 use Rattle.study_reader.specs.declared.entries.Scanned.{Scanned}
 use Rattle.study_reader.specs.declared.entries.Band.{Band}
@@ -136,38 +137,46 @@ widths_fault place from to finest = unless (int_le (to -ℤ from) (pos MAX_WIDTH
 unfoldable pub locate_fault : Place → ℤ → ℤ → Option StudyFault
 locate_fault place finest locate = unless (int_le finest locate) (BadBand (key_of place key.Locate))
 
-unfoldable pub band_fault : Place → Data → Option StudyFault
-band_fault place entry = first_fault (
+unfoldable pub band_fault : ℕ → Place → Data → Option StudyFault
+band_fault version place entry = first_fault (
     decimal_fault place key.From BAND entry ∷
     decimal_fault place key.To BAND entry ∷
     upwards_fault place (decimal_value key.From entry) (decimal_value key.To entry) ∷
-    decimal_fault place key.Threshold ABOVE_ZERO entry ∷
+    limit_fault version place (decimal_value key.From entry) (decimal_value key.To entry) entry ∷
     decimal_fault place key.Finest FINEST entry ∷
     widths_fault place (decimal_value key.From entry) (decimal_value key.To entry) (decimal_value key.Finest entry) ∷
     default_fault place key.Locate LOCATE entry ∷
     locate_fault place (decimal_value key.Finest entry) (decimal_or (decimal_value key.Finest entry) key.Locate entry) ∷ [])
 
-abbrev pub band : Data → Band
-band entry = record {
+abbrev pub band : ℕ → Data → Band
+band version entry = record {
   from = decimal_value key.From entry;
   to = decimal_value key.To entry;
-  threshold = decimal_value key.Threshold entry;
+  limit = limit version entry;
   finest = decimal_value key.Finest entry;
   locate = decimal_or (decimal_value key.Finest entry) key.Locate entry;
 }
 
-abbrev pub scan_keys : List Key
-scan_keys = key.Name ∷ key.Bus ∷ key.Network ∷ key.Phase ∷ key.From ∷ key.To ∷ key.Threshold ∷ key.Finest ∷ key.Locate ∷ []
+-- the keys of a scan in version 1
+abbrev pub ohms_keys : List Key
+ohms_keys = key.Name ∷ key.Bus ∷ key.Network ∷ key.Phase ∷ key.From ∷ key.To ∷ key.Threshold ∷ key.Finest ∷ key.Locate ∷ []
+
+-- and in version 2
+abbrev pub curve_keys : List Key
+curve_keys = key.Name ∷ key.Bus ∷ key.Network ∷ key.Phase ∷ key.From ∷ key.To ∷ key.CurveAt ∷ key.CurveOhms ∷ key.Finest ∷ key.Locate ∷ []
+
+unfoldable pub scan_keys_fault : ℕ → Place → Data → Option StudyFault
+scan_keys_fault version place entry = keys_fault place place (if has_curves version then curve_keys else ohms_keys) entry
 
 -- a scan, which isn't named as the rows of limits are
 unfoldable pub scan_entry_fault : Context → List (List ℕ) → Place → Data → Option StudyFault
 scan_entry_fault context earlier place entry = first_fault (
-    keys_fault place place scan_keys entry ∷
+    scan_keys_fault context.version place entry ∷
     reserved_fault place (codes "limits") entry ∷
     name_fault place earlier entry ∷
     bus_fault place key.Bus context.buses entry ∷
     scanned_fault context.model place entry ∷
-    band_fault place entry ∷ [])
+    band_fault context.version place entry ∷ [])
 
 unfoldable pub scan_entry : Context → Data → ScanItem
 scan_entry context entry = record {
@@ -177,7 +186,8 @@ scan_entry context entry = record {
   phase = word_value phase_of key.Phase entry;
   from = decimal_value key.From entry;
   to = decimal_value key.To entry;
-  threshold = decimal_value key.Threshold entry;
+  threshold = (limit context.version entry).threshold;
+  curve = (limit context.version entry).curve;
   finest = decimal_value key.Finest entry;
   locate = decimal_or (decimal_value key.Finest entry) key.Locate entry;
 }

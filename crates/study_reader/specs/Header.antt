@@ -1,22 +1,17 @@
 -- The one table of the study as a whole.
-use Rattle.std.specs.Prelude.{ℕ, pos, false, List, [], ◌∷◌, Option, Some, None, unwrap_or}
+use Rattle.std.specs.Prelude.{pos, false, List, [], ◌∷◌, Option, Some, None, unwrap_or}
 use Rattle.toml.specs.Data.{Data, table, no_members}
-use Rattle.study_model.specs.ValueWords.{named, method_text, study_model_of}
+use Rattle.study_model.specs.ValueWords.{method_of, study_model_of}
 use Rattle.study_model.specs.declared.fault.Section.TheVariants as section
 use Rattle.study_model.specs.declared.fault.Key.{Key}
 use Rattle.study_model.specs.declared.fault.Key.TheVariants as key
 use Rattle.study_model.specs.declared.fault.StudyFault.{StudyFault}
 use Rattle.study_model.specs.declared.fault.StudyFault.TheVariants.{MissingKey}
 use Rattle.study_model.specs.declared.range.TheConstants.Range.{BASE_MVA, HERTZ, ROOT3}
-use Rattle.study_model.specs.declared.words.Method.{Method}
 use Rattle.study_model.specs.declared.words.StudyModel.TheVariants.{Sequence}
 use Rattle.study_model.specs.declared.words.Method.TheVariants.{Elimination}
-use Rattle.study_reader.specs.Checks.{first_fault, place_of, keys_fault, version_fault, decimal_fault, decimal_value, default_fault, decimal_or, word_fault, word_value, scale_fault, scale_value}
+use Rattle.study_reader.specs.Checks.{first_fault, place_of, keys_fault, version_fault, version_value, decimal_fault, decimal_value, default_fault, decimal_or, word_fault, word_value, scale_fault, scale_value}
 use Rattle.study_reader.specs.declared.header.Header.{Header}
-
--- the method whose word a text is, among those that are built
-abbrev pub built_method_of : List ℕ → Option Method
-built_method_of text = named method_text (Elimination ∷ []) text
 
 abbrev pub study_keys : List Key
 study_keys = key.Version ∷ key.Mva ∷ key.Hz ∷ key.Model ∷ key.Scale ∷ key.Method ∷ key.Root3 ∷ []
@@ -30,16 +25,17 @@ header_fault entry = let place = place_of section.Study 1 key.Nothing in first_f
     default_fault place key.Hz HERTZ entry ∷
     word_fault place key.Model false study_model_of entry ∷
     scale_fault place entry ∷
-    word_fault place key.Method false built_method_of entry ∷
+    word_fault place key.Method false method_of entry ∷
     default_fault place key.Root3 ROOT3 entry ∷ [])
 
 unfoldable pub header_value : Data → Header
 header_value entry = record {
+  version = version_value entry;
   mva = decimal_value key.Mva entry;
   hz = decimal_or (pos 50000000) key.Hz entry;
   model = unwrap_or (word_value study_model_of key.Model entry) Sequence;
   scale = scale_value entry;
-  method = unwrap_or (word_value built_method_of key.Method entry) Elimination;
+  method = unwrap_or (word_value method_of key.Method entry) Elimination;
   root3 = decimal_or (pos 1732051) key.Root3 entry;
 }
 

@@ -28,6 +28,7 @@ pub record Reaches (elements : List Element) (bus number : ℕ) : Type 0 where
 
 -- the keys of the study as a whole
 pub record IsLawfulHeader (header : Header) : Type 0 where
+  pub version : (header.version ≡ 1) ⊎ (header.version ≡ 2)
   pub mva : IsIn BASE_MVA header.mva
   pub hz : IsIn HERTZ header.hz
   pub scale : (header.scale ≡ 40) ⊎ (header.scale ≡ 48)

@@ -1,6 +1,7 @@
 pub mod Checks
 pub mod Header
 pub mod Sections
+pub mod Curves
 pub mod Groups
 pub mod Entries
 pub mod Loads

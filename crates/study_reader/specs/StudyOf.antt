@@ -31,13 +31,13 @@ at_most at most = record { section = at; optional = true; least = 0; most = most
 abbrev pub some_buses : Occurrence
 some_buses = record { section = section.Bus; optional = false; least = 1; most = MAX_BUSES }
 
--- what the buses are read beside: the model of the study
+-- what the buses are read beside: the version and the model of the study
 abbrev pub before_buses : Data → Context
-before_buses document = record { model = (study_section_value (section_in section.Study document)).model; buses = []; elements = [] }
+before_buses document = let header = study_section_value (section_in section.Study document) in record { version = header.version; model = header.model; buses = []; elements = [] }
 
 -- what the sections after the buses are read beside
 unfoldable pub context_of : Data → Context
-context_of document = record { model = (study_section_value (section_in section.Study document)).model; buses = section_value (bus_entry (before_buses document)) section.Bus document; elements = [] }
+context_of document = let header = study_section_value (section_in section.Study document) in record { version = header.version; model = header.model; buses = section_value (bus_entry (before_buses document)) section.Bus document; elements = [] }
 
 -- the checks of the elements in the order of their sections, beside the names before them
 unfoldable pub plant_fault : Context → List (List ℕ) → Data → Option StudyFault
@@ -89,7 +89,7 @@ plant_elements plant = map ends_of (elements_in plant.sources plant.lines plant.
 
 -- what the points are read beside
 unfoldable pub with_elements : Context → Plant → Context
-with_elements context plant = record { model = context.model; buses = context.buses; elements = plant_elements plant }
+with_elements context plant = record { version = context.version; model = context.model; buses = context.buses; elements = plant_elements plant }
 
 -- the checks of the sections in order
 unfoldable pub sections_fault : Data → Option StudyFault
@@ -109,7 +109,7 @@ study_value document =
     let header = study_section_value (section_in section.Study document) in
     let context = context_of document in
     let plant = plant_value context document in record {
-      version = 1;
+      version = header.version;
       mva = header.mva;
       hz = header.hz;
       model = header.model;

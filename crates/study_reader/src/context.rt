@@ -10,9 +10,10 @@ pub(crate) struct Element {
     pub(crate) to: u32,
 }
 
-/// The model of the study, and the buses and the elements of the sections before.
+/// The version and the model of the study, and the buses and the elements of the sections before.
 #[derive(Drop)]
 pub(crate) struct Context {
+    pub(crate) version: u32,
     pub(crate) model: StudyModel,
     pub(crate) buses: Items<Bus>,
     pub(crate) elements: Items<Element>,

@@ -1,7 +1,7 @@
 // The numbers at the keys of an entry.
 ghost use Rattle.std.specs.Prelude.{◌≡◌, unsigned_abs};
 ghost use Rattle.toml.specs.View.{view};
-ghost use Rattle.study_reader.specs.Checks.{Reads, range_fault, millionths_of, decimal_check, decimal_in, optional_fault, decimal_fault, default_fault, option_value, decimal_or, decimal_value, is_zero, both_zero_fault, version_fault, scale_fault, scale_value, sections_of, sections_fault, sections_value};
+ghost use Rattle.study_reader.specs.Checks.{Reads, range_fault, millionths_of, decimal_check, decimal_in, optional_fault, decimal_fault, default_fault, option_value, decimal_or, decimal_value, is_zero, both_zero_fault, version_fault, version_value, scale_fault, scale_value, sections_of, sections_fault, sections_value};
 
 use crate::keys::{find, key_of};
 use fixed_decimal::Decimal;
@@ -23,7 +23,7 @@ fn ranged(decimal: Option<Decimal>, place: Place, range: Range) -> Result<Decima
 }
 
 /// A value that is a decimal in its range.
-fn decimal_in(value: &Value, place: Place, range: Range) -> Result<Decimal, StudyFault>
+pub(crate) fn decimal_in(value: &Value, place: Place, range: Range) -> Result<Decimal, StudyFault>
     ensures read { Reads result (decimal_check place range (view value.now)) (decimal_in (view value.now)) }
 {
     match value {
@@ -118,14 +118,15 @@ pub(crate) fn not_both_zero(
     Ok(())
 }
 
-/// The version, which is 1.
-#[tactic(auto, unfolding(crate::specs::Checks::version_fault))]
-pub(crate) fn version(entry: &Value, place: Place) -> Result<(), StudyFault>
-    ensures { Reads result (version_fault place (view entry.now)) tt }
+/// The version, which is 1 or 2.
+#[tactic(auto, unfolding(crate::specs::Checks::version_fault, crate::specs::Checks::version_value))]
+pub(crate) fn version(entry: &Value, place: Place) -> Result<u32, StudyFault>
+    ensures read { Reads result (version_fault place (view entry.now)) (version_value (view entry.now)) }
 {
     match find(entry, Key::Version) {
         None => Err(StudyFault::MissingKey(key_of(place, Key::Version))),
-        Some(Value::Integer(1)) => Ok(()),
+        Some(Value::Integer(1)) => Ok(1),
+        Some(Value::Integer(2)) => Ok(2),
         Some(Value::Integer(_)) => Err(StudyFault::VersionUnknown),
         Some(_) => Err(StudyFault::WrongKind(key_of(place, Key::Version))),
     }

@@ -1,9 +1,10 @@
 // The entries of buses, sources, banks, filters and scans.
 ghost use Rattle.toml.specs.View.{view};
 ghost use Rattle.study_reader.specs.Checks.{Reads};
-ghost use Rattle.study_reader.specs.Entries.{bus_entry_fault, bus_entry, source_entry_fault, source_entry, bank_entry_fault, bank_entry, filter_entry_fault, filter_entry, scanned_fault, scanned, upwards_fault, widths_fault, locate_fault, band_fault, band, scan_entry_fault, scan_entry};
+ghost use Rattle.study_reader.specs.Entries.{bus_entry_fault, bus_entry, source_entry_fault, source_entry, bank_entry_fault, bank_entry, filter_entry_fault, filter_entry, scan_keys_fault, scanned_fault, scanned, upwards_fault, widths_fault, locate_fault, band_fault, band, scan_entry_fault, scan_entry};
 
 use crate::context::Context;
+use crate::curves::{Limit, has_curves, limit_of};
 use crate::decimals::{decimal, decimal_or};
 use crate::entry::Entry;
 use crate::groups::{impedance_of, in_phases, skin_of, wiring_of, zero_sequence_of};
@@ -160,24 +161,24 @@ fn no_finer(place: Place, finest: Decimal, locate: Decimal) -> Result<(), StudyF
     Ok(())
 }
 
-/// The band of a scan in orders, its threshold in ohms, and its widths in orders.
+/// The band of a scan in orders, its threshold, and its widths in orders.
 #[derive(Clone, Copy)]
 pub(crate) struct Band {
     pub(crate) from: Decimal,
     pub(crate) to: Decimal,
-    pub(crate) threshold: Decimal,
+    pub(crate) limit: Limit,
     pub(crate) finest: Decimal,
     pub(crate) locate: Decimal,
 }
 
 #[tactic(auto, unfolding(crate::specs::Entries::band_fault))]
-fn band_of(entry: &Value, place: Place) -> Result<Band, StudyFault>
-    ensures read { Reads result (band_fault place (view entry.now)) (band (view entry.now)) }
+fn band_of(entry: &Value, place: Place, version: u32) -> Result<Band, StudyFault>
+    ensures read { Reads result (band_fault version place (view entry.now)) (band version (view entry.now)) }
 {
     let from = decimal(entry, place, Key::From, Range::BAND)?;
     let to = decimal(entry, place, Key::To, Range::BAND)?;
     upwards(place, from, to)?;
-    let threshold = decimal(entry, place, Key::Threshold, Range::ABOVE_ZERO)?;
+    let limit = limit_of(entry, place, version, from, to)?;
     let finest = decimal(entry, place, Key::Finest, Range::FINEST)?;
     few_widths(place, from, to, finest)?;
     let locate = decimal_or(entry, place, Key::Locate, Range::LOCATE, finest)?;
@@ -185,10 +186,44 @@ fn band_of(entry: &Value, place: Place) -> Result<Band, StudyFault>
     Ok(Band {
         from,
         to,
-        threshold,
+        limit,
         finest,
         locate,
     })
+}
+
+/// A scan has no key beyond those of the study's version.
+#[tactic(auto, unfolding(crate::specs::Entries::scan_keys_fault))]
+fn scan_keys(entry: &Value, place: Place, version: u32) -> Result<(), StudyFault>
+    ensures read { Reads result (scan_keys_fault version place (view entry.now)) tt }
+{
+    if has_curves(version) {
+        let keys = [
+            Key::Name,
+            Key::Bus,
+            Key::Network,
+            Key::Phase,
+            Key::From,
+            Key::To,
+            Key::CurveAt,
+            Key::CurveOhms,
+            Key::Finest,
+            Key::Locate,
+        ];
+        return entry_keys(entry, place, place, &keys);
+    }
+    let keys = [
+        Key::Name,
+        Key::Bus,
+        Key::Network,
+        Key::Phase,
+        Key::From,
+        Key::To,
+        Key::Threshold,
+        Key::Finest,
+        Key::Locate,
+    ];
+    entry_keys(entry, place, place, &keys)
 }
 
 impl Entry for ScanItem {
@@ -203,23 +238,12 @@ impl Entry for ScanItem {
         earlier: &[Name],
         context: &Context,
     ) -> Result<(Name, ScanItem), StudyFault> {
-        let keys = [
-            Key::Name,
-            Key::Bus,
-            Key::Network,
-            Key::Phase,
-            Key::From,
-            Key::To,
-            Key::Threshold,
-            Key::Finest,
-            Key::Locate,
-        ];
-        entry_keys(entry, place, place, &keys)?;
+        scan_keys(entry, place, context.version)?;
         not_reserved(entry, place, "limits")?;
         let name = name(entry, place, earlier)?;
         let bus = bus(entry, place, Key::Bus, context.buses.as_slice())?;
         let scanned = scanned_of(entry, place, context.model)?;
-        let band = band_of(entry, place)?;
+        let band = band_of(entry, place, context.version)?;
         let scan = ScanItem {
             name,
             bus,
@@ -227,7 +251,8 @@ impl Entry for ScanItem {
             phase: scanned.phase,
             from: band.from,
             to: band.to,
-            threshold: band.threshold,
+            threshold: band.limit.threshold,
+            curve: band.limit.curve,
             finest: band.finest,
             locate: band.locate,
         };

@@ -18,6 +18,7 @@ use toml::Value;
 /// The keys of the study as a whole.
 #[derive(Clone, Copy)]
 pub(crate) struct Header {
+    pub(crate) version: u32,
     pub(crate) mva: Decimal,
     pub(crate) hz: Decimal,
     pub(crate) model: StudyModel,
@@ -58,7 +59,7 @@ fn header_of(entry: &Value) -> Result<Header, StudyFault>
         Key::Root3,
     ];
     entry_keys(entry, place(0), place(1), &keys)?;
-    version(entry, place(1))?;
+    let version = version(entry, place(1))?;
     let mva = decimal(entry, place(1), Key::Mva, Range::BASE_MVA)?;
     let hz = decimal_or(entry, place(1), Key::Hz, Range::HERTZ, USUAL_HERTZ)?;
     let model = word::<StudyModel>(entry, place(1), Key::Model, false)?;
@@ -66,6 +67,7 @@ fn header_of(entry: &Value) -> Result<Header, StudyFault>
     let method = word::<Method>(entry, place(1), Key::Method, false)?;
     let root3 = decimal_or(entry, place(1), Key::Root3, Range::ROOT3, USUAL_ROOT3)?;
     Ok(Header {
+        version,
         mva,
         hz,
         model: model.unwrap_or(StudyModel::Sequence),

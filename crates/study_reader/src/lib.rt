@@ -5,6 +5,8 @@ mod arrays;
 mod branches;
 mod built;
 mod context;
+mod curves;
+mod decimal_array;
 mod decimals;
 mod elements;
 mod entries;

@@ -174,13 +174,14 @@ fn plant_of(
 /// The context of the points of common coupling.
 #[tactic(auto, unfolding(crate::specs::StudyOf::with_elements))]
 fn with_elements(alloc: Global, context: Context, plant: &Plant) -> Result<Context, StudyFault>
-    ensures same { IfOk result (λ whole. whole ≡ record { model = context.model; buses = context.buses; elements = plant_elements plant.now }) }
+    ensures same { IfOk result (λ whole. whole ≡ record { version = context.version; model = context.model; buses = context.buses; elements = plant_elements plant.now }) }
     ensures read { ReadsInMemory result None (with_elements context plant.now) }
 {
     let Ok(elements) = elements_of(alloc, plant) else {
         return Err(StudyFault::NoMemory);
     };
     Ok(Context {
+        version: context.version,
         model: context.model,
         buses: context.buses,
         elements,
@@ -195,12 +196,14 @@ fn study_in(alloc: Global, document: &Value) -> Result<Study, StudyFault>
     let header = study_section(document)?;
     let mut names = Vec::new(alloc);
     let before = Context {
+        version: header.version,
         model: header.model,
         buses: Items::new(alloc),
         elements: Items::new(alloc),
     };
     let buses = section_entries::<Bus>(alloc, document, some_buses(), &before, &mut names)?;
     let context = Context {
+        version: header.version,
         model: header.model,
         buses,
         elements: Items::new(alloc),
@@ -212,7 +215,7 @@ fn study_in(alloc: Global, document: &Value) -> Result<Study, StudyFault>
     let at = at_most(Section::Pcc, MAX_POINTS);
     let points = section_entries::<Pcc>(alloc, document, at, &context, &mut names)?;
     Ok(Study {
-        version: 1,
+        version: header.version,
         mva: header.mva,
         hz: header.hz,
         model: header.model,

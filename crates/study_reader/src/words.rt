@@ -29,15 +29,12 @@ impl HasWord for StudyModel {
 }
 
 impl HasWord for Method {
-    ghost use Rattle.study_reader.specs.Header.{built_method_of};
+    ghost use Rattle.study_model.specs.ValueWords.{method_of};
 
-    ghost word = { built_method_of };
+    ghost word = { method_of };
 
     fn of_text(text: &str) -> Option<Self> {
-        match text {
-            "elimination" => Some(Method::Elimination),
-            _ => None,
-        }
+        Method::from_text(text)
     }
 }
 

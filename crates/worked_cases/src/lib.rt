@@ -4,6 +4,10 @@
 #[cfg(test)]
 mod answers;
 #[cfg(test)]
+mod curve_refusals;
+#[cfg(test)]
+mod curves;
+#[cfg(test)]
 mod examples;
 #[cfg(test)]
 mod faults;

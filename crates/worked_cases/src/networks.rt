@@ -87,6 +87,47 @@ summary,s1,1,0,0,1,1
 end,4
 ";
 
+/// The same with both methods: the inverse clears the box.
+pub const FAR_BANK_BOTH: &str = r#"[study]
+version = 1
+mva = "100"
+method = "both"
+[[bus]]
+name = "A"
+kv = "10"
+[[bus]]
+name = "K"
+kv = "10"
+[[source]]
+name = "S1"
+bus = "K"
+r = "0"
+x = "1"
+[[line]]
+name = "L1"
+from = "A"
+to = "K"
+r = "0"
+x = "1"
+[[bank]]
+name = "K1"
+bus = "A"
+q = "4"
+[[scan]]
+name = "s1"
+bus = "K"
+from = "4.99"
+to = "5.01"
+threshold = "20"
+finest = "0.02"
+"#;
+
+pub const FAR_BANK_BOTH_REPORT: &str = r"scan,s1,K,positive,4.990000,5.010000,20.000000,both
+box,1,4.990000,5.010000,cleared,-,-
+summary,s1,1,1,0,0,0
+end,0
+";
+
 /// Every kind of element, in both networks. Its report was computed by another program.
 pub const EVERY_ELEMENT: &str = r#"study = { version = 1, mva = "10" }
 bus = [{ name = "INTAKE", kv = "33" }, { name = "MAIN", kv = "11" }, { name = "SHOP", kv = "11" }]
@@ -199,11 +240,8 @@ summary,clear,1,1,0,0,0
 end,3
 ";
 
-/// An industrial plant behind a transformer: four feeders, loads, a bank and a filter.
-pub const INDUSTRIAL: &str = r#"[study]
-version = 1
-mva = "100"
-[[bus]]
+/// An industrial plant behind a transformer, after the header of its study: four feeders, loads, a bank and a filter.
+pub const INDUSTRIAL: &str = r#"[[bus]]
 name = "GRID"
 kv = "132"
 [[bus]]
@@ -315,11 +353,20 @@ isc = "6000"
 il = "200"
 "#;
 
-/// How its report begins and ends. The number of its boxes was computed by two other programs.
+/// Its headers, with each method, and how its report begins and ends. The numbers of its boxes were computed by two other programs.
+pub const INDUSTRIAL_HEADER: &str = "study = { version = 1, mva = 100 }\n";
+
 pub const INDUSTRIAL_FRONT: &str =
     "scan,s1,F3,positive,1.000000,50.000000,400.000000,elimination\nbox,1,1.000000,1.005981,undecided,-,-\n";
 
 pub const INDUSTRIAL_END: &str = "summary,s1,534,518,0,16,1\nend,4\n";
+
+pub const INDUSTRIAL_BOTH_HEADER: &str = "study = { version = 1, mva = 100, method = \"both\" }\n";
+
+pub const INDUSTRIAL_BOTH_FRONT: &str =
+    "scan,s1,F3,positive,1.000000,50.000000,400.000000,both\nbox,1,1.000000,1.";
+
+pub const INDUSTRIAL_BOTH_END: &str = "summary,s1,502,502,0,0,0\nend,0\n";
 
 /// Six lines of 64 sections and one of 21: 400 nodes, as many as a network may have.
 pub const FULL: &str = r#"study = { version = 1, mva = 100 }

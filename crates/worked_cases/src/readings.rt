@@ -3,7 +3,7 @@ use crate::answers::joined;
 use std::alloc::Global;
 use std::process::Abort;
 use std::test::Fail;
-use study_model::{Bank, Bus, Method, Pcc, ScanItem, Source, Study, StudyModel};
+use study_model::{Bank, Bus, Curve, CurvePoint, Method, Pcc, ScanItem, Source, Study, StudyModel};
 use study_reader::read_study;
 
 const STUDY: &str = "[study]\nversion = 1\nmva = \"100\"\n";
@@ -48,18 +48,28 @@ fn is_bank(banks: &[Bank], name: &[u8], q: i64) -> bool {
     }
 }
 
-/// Whether there is one scan, of this band, this threshold, this finest width and this width to locate.
-fn is_scan(scans: &[ScanItem], name: &[u8], numbers: [i64; 5]) -> bool {
+/// Whether there is one scan, of this band, this finest width and this width to locate.
+fn is_scan(scans: &[ScanItem], name: &[u8], numbers: [i64; 4]) -> bool {
     match scans {
         [scan] => {
             let found = [
                 scan.from.millionths,
                 scan.to.millionths,
-                scan.threshold.millionths,
                 scan.finest.millionths,
                 scan.locate.millionths,
             ];
             scan.name.as_bytes() == name && found == numbers
+        }
+        _ => false,
+    }
+}
+
+/// Whether there is one scan, with this threshold.
+fn has_threshold(scans: &[ScanItem], ohms: Option<i64>, curve: Curve) -> bool {
+    match scans {
+        [scan] => {
+            let threshold = scan.threshold.map(|ohms| ohms.millionths);
+            threshold == ohms && scan.curve == curve
         }
         _ => false,
     }
@@ -87,8 +97,11 @@ fn assert_all(rt: &impl Abort, parts: &[(&str, bool)]) {
 #[test]
 fn one_source(rt: HostRuntime) -> Result<(), Fail> {
     let study = read(rt.alloc(), &[STUDY, BUS, SOURCE, SCAN])?;
-    let numbers = [1_000_000, 10_000_000, 20_000_000, 1_000, 1_000];
+    let numbers = [1_000_000, 10_000_000, 1_000, 1_000];
+    let scans = study.scans.as_slice();
+    let flat = Curve::flat(20_000_000);
     let parts = [
+        ("version", study.version == 1),
         ("usual", is_usual(&study)),
         ("mva", study.mva.millionths == 100_000_000),
         ("bus", is_bus(study.buses.as_slice(), b"B1", 10_000_000)),
@@ -96,7 +109,8 @@ fn one_source(rt: HostRuntime) -> Result<(), Fail> {
             "source",
             is_source(study.sources.as_slice(), b"S1", 0, 1_500_000),
         ),
-        ("scan", is_scan(study.scans.as_slice(), b"s1", numbers)),
+        ("scan", is_scan(scans, b"s1", numbers)),
+        ("threshold", has_threshold(scans, Some(20_000_000), flat)),
     ];
     assert_all(&rt, &parts);
     Ok(())
@@ -106,12 +120,67 @@ fn one_source(rt: HostRuntime) -> Result<(), Fail> {
 fn a_bank_and_a_coarser_search(rt: HostRuntime) -> Result<(), Fail> {
     let pieces = [STUDY, BUS, SOURCE, BANK, SCAN, "locate = \"0.25\"\n"];
     let study = read(rt.alloc(), &pieces)?;
-    let numbers = [1_000_000, 10_000_000, 20_000_000, 1_000, 250_000];
+    let numbers = [1_000_000, 10_000_000, 1_000, 250_000];
     let parts = [
         ("bank", is_bank(study.banks.as_slice(), b"K1", 4_250_000)),
         ("scan", is_scan(study.scans.as_slice(), b"s1", numbers)),
     ];
     assert_all(&rt, &parts);
+    Ok(())
+}
+
+const NEWER_STUDY: &str = "[study]\nversion = 2\nmva = \"100\"\nmethod = \"both\"\n";
+
+const CURVE: &str =
+    "[[scan]]\nname = \"s1\"\nbus = \"B1\"\nfrom = 1\nto = 10\ncurve_at = [\"0.5\", 2, 10]\ncurve_ohms = [\"0.000001\", \"20\", \"999999.999999\"]\nfinest = \"0.001\"\n";
+
+#[test]
+fn a_curve(rt: HostRuntime) -> Result<(), Fail> {
+    let study = read(rt.alloc(), &[NEWER_STUDY, BUS, SOURCE, CURVE])?;
+    let scans = study.scans.as_slice();
+    let curve = Curve::of_points(&[
+        CurvePoint {
+            at: 500_000,
+            ohms: 1,
+        },
+        CurvePoint {
+            at: 2_000_000,
+            ohms: 20_000_000,
+        },
+        CurvePoint {
+            at: 10_000_000,
+            ohms: 999_999_999_999,
+        },
+    ]);
+    let numbers = [1_000_000, 10_000_000, 1_000, 1_000];
+    let parts = [
+        ("version", study.version == 2),
+        ("method", study.method == Method::Both),
+        ("scan", is_scan(scans, b"s1", numbers)),
+        ("threshold", has_threshold(scans, None, curve)),
+    ];
+    assert_all(&rt, &parts);
+    Ok(())
+}
+
+const LONG_CURVE: &str =
+    "[[scan]]\nname = \"s1\"\nbus = \"B1\"\nfrom = \"0.1\"\nto = 100\ncurve_at = [\"0.1\", 1, 2, 3, 4, 5, 6, 7, 8, 9, 10, 11, 12, 13, 14, 100]\ncurve_ohms = [1, 2, 3, 4, 5, 6, 7, 8, 9, 10, 11, 12, 13, 14, 15, 16]\nfinest = 1\n";
+
+#[test]
+fn a_curve_of_sixteen_points(rt: HostRuntime) -> Result<(), Fail> {
+    let study = read(rt.alloc(), &[NEWER_STUDY, BUS, SOURCE, LONG_CURVE])?;
+    let mut points = [CurvePoint::NONE; 16];
+    for i in 0..16 {
+        points[i] = CurvePoint {
+            at: i as u32 * 1_000_000,
+            ohms: (i as u64 + 1) * 1_000_000,
+        };
+    }
+    points[0].at = 100_000;
+    points[15].at = 100_000_000;
+    let curve = Curve::of_points(&points);
+    let held = has_threshold(study.scans.as_slice(), None, curve);
+    assert_all(&rt, &[("sixteen points", held)]);
     Ok(())
 }
 

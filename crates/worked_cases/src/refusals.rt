@@ -48,14 +48,16 @@ pub const DOCUMENTS: [(&str, &str); 12] = [
 ];
 
 /// The entries of the table `study`, before one bus.
-pub const HEADERS: [(&str, &str); 30] = [
+pub const HEADERS: [(&str, &str); 33] = [
     ("mva = 100", "3 MissingKey study 1 version"),
-    ("version = 2, mva = 100", "2 VersionUnknown"),
+    ("version = 3, mva = 100", "2 VersionUnknown"),
+    ("version = 0", "2 VersionUnknown"),
     ("version = -1", "2 VersionUnknown"),
     ("version = 1.0", "5 WrongKind study 1 version"),
     ("version = \"1\"", "5 WrongKind study 1 version"),
-    ("version = 2, zz = 1", "4 UnknownKey study 1 -"),
+    ("version = 3, zz = 1", "4 UnknownKey study 1 -"),
     ("version = 1", "3 MissingKey study 1 mva"),
+    ("version = 2", "3 MissingKey study 1 mva"),
     ("version = 1, mva = true", "5 WrongKind study 1 mva"),
     ("version = 1, mva = 100.0", "6 BareDecimal study 1 mva"),
     ("version = 1, mva = \"\"", "7 BadDecimal study 1 mva"),
@@ -102,7 +104,11 @@ pub const HEADERS: [(&str, &str); 30] = [
         "5 WrongKind study 1 scale",
     ),
     (
-        "version = 1, mva = 100, method = \"both\"",
+        "version = 1, mva = 100, method = \"Both\"",
+        "5 WrongKind study 1 method",
+    ),
+    (
+        "version = 1, mva = 100, method = \"inverse\"",
         "5 WrongKind study 1 method",
     ),
     (
@@ -124,7 +130,7 @@ pub const HEADERS: [(&str, &str); 30] = [
         "3 MissingKey study 1 mva",
     ),
     (
-        "version = 1, mva = 100, scale = 41, method = \"both\"",
+        "version = 1, mva = 100, scale = 41, method = \"inverse\"",
         "8 OutOfRange study 1 scale",
     ),
     ("version = 1.0, mva = 100, zz = 1", "4 UnknownKey study 1 -"),

@@ -1,6 +1,6 @@
 // Studies that are refused, through the program.
 use crate::answers::{Answer, SCAN, assert_answer, joined, shelf_with};
-use crate::refusals;
+use crate::{curve_refusals, refusals};
 use std::alloc::Global;
 use std::process::Abort;
 use std::test::Fail;
@@ -96,6 +96,14 @@ fn refused_loads(rt: HostRuntime) -> Result<(), Fail> {
 #[test]
 fn refused_scans(rt: HostRuntime) -> Result<(), Fail> {
     assert_behind(&rt, rt.alloc(), &PLANT, &refusals::SCAN_LISTS)
+}
+
+#[test]
+fn refused_curves(rt: HostRuntime) -> Result<(), Fail> {
+    let newer = [curve_refusals::STUDY, refusals::ONE_BUS];
+    assert_behind(&rt, rt.alloc(), &newer, &curve_refusals::SCAN_LISTS)?;
+    let older = [refusals::STUDY, refusals::ONE_BUS];
+    assert_behind(&rt, rt.alloc(), &older, &curve_refusals::OLDER_LISTS)
 }
 
 #[test]

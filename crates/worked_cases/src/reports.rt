@@ -1,6 +1,6 @@
 // Reports, through the program.
-use crate::answers::{Answer, SCAN, assert_answer, assert_long_report, assert_reports};
-use crate::{networks, studies};
+use crate::answers::{Answer, SCAN, assert_answer, assert_long_report, assert_reports, joined};
+use crate::{curves, networks, studies};
 use harm_io::SteadyShelf;
 use std::test::Fail;
 
@@ -61,6 +61,7 @@ fn reports_of_lines_transformers_and_filters(rt: HostRuntime) -> Result<(), Fail
     let cases = [
         (networks::FILTER, networks::FILTER_REPORT, 3),
         (networks::FAR_BANK, networks::FAR_BANK_REPORT, 4),
+        (networks::FAR_BANK_BOTH, networks::FAR_BANK_BOTH_REPORT, 0),
         (networks::EVERY_ELEMENT, networks::EVERY_ELEMENT_REPORT, 3),
         (networks::FULL, studies::NO_SCAN_REPORT, 0),
         (studies::TWO_RESONANCES, studies::TWO_RESONANCES_REPORT, 3),
@@ -69,8 +70,26 @@ fn reports_of_lines_transformers_and_filters(rt: HostRuntime) -> Result<(), Fail
 }
 
 #[test]
+fn reports_of_curves(rt: HostRuntime) -> Result<(), Fail> {
+    let cases = [
+        (curves::LEVEL, curves::LEVEL_REPORT, 0),
+        (curves::RISING, curves::RISING_REPORT, 0),
+    ];
+    assert_reports(&rt, rt.alloc(), &cases)
+}
+
+#[test]
 fn an_industrial_plant(rt: HostRuntime) -> Result<(), Fail> {
+    let header = networks::INDUSTRIAL_HEADER;
+    let study = joined(rt.alloc(), &[header, networks::INDUSTRIAL])?;
     let ends = (networks::INDUSTRIAL_FRONT, networks::INDUSTRIAL_END);
-    assert_long_report(&rt, rt.alloc(), networks::INDUSTRIAL, ends, 4)?;
+    assert_long_report(&rt, rt.alloc(), &study, ends, 4)?;
+    let header = networks::INDUSTRIAL_BOTH_HEADER;
+    let study = joined(rt.alloc(), &[header, networks::INDUSTRIAL])?;
+    let ends = (
+        networks::INDUSTRIAL_BOTH_FRONT,
+        networks::INDUSTRIAL_BOTH_END,
+    );
+    assert_long_report(&rt, rt.alloc(), &study, ends, 0)?;
     Ok(())
 }

@@ -1,4 +1,4 @@
-use Rattle.band_subdivision.proofs.PairTests.{pair_is_sound}
+use Rattle.band_subdivision.proofs.PairSound.{pair_is_sound}
 use Rattle.band_subdivision.proofs.pair_test_is_sound.Goals as goal
 
 pub returns : goal.returns

@@ -5,7 +5,7 @@ use Rattle.net_branch.specs.declared.network.Network.{Network as BuiltNetwork}
 use Rattle.study_model.specs.Elements.{elements_of}
 use Rattle.sequence_network.specs.Networks.{network_of}
 use Rattle.sequence_network.proofs.Branches.{network_small, network_uncoupled}
-use Rattle.sequence_network.proofs.Growth.{start_of, next_of, one_more, large_element, all_added, not_too_large}
+use Rattle.sequence_network.proofs.Growth.{start_of, next_of, one_more, passing_element, all_added, whole_fits}
 use Rattle.sequence_network.proofs.Owners.{network_owned}
 use Rattle.sequence_network.proofs.build.build_sequence.Goals as goal
 
@@ -35,7 +35,7 @@ returns-in_err-add_element-clause-too_many c =
     let within : c.loop-place.place < length (elements_of study) = omega (arith, c.loop-place-test.true, c.element_count-place-end.ensures.count) in
     let next = next_of (elements_of study) c.loop-place.place within in
     let added = c.in_err-add_element.ensures next.element next.there in
-    rw (p.1, p.2) (λ h. large_element study c.args.sequence _ _ c.loop-place.place next (added.too_many h) c.loop-place.invariant.to_come)
+    rw (p.1, p.2) (λ h. passing_element study c.args.sequence _ _ c.loop-place.place next (added.too_many h) c.loop-place.invariant.to_come)
 
 pub returns-clause-network : goal.returns-clause-network
 returns-clause-network c =
@@ -44,7 +44,7 @@ returns-clause-network c =
     record {
       exact = exact;
       whole = c.loop-place.invariant.whole;
-      fits = not_too_large c.loop-place.network (network_of study c.args.sequence) c.loop-place.invariant.whole.limits exact;
+      fits = whole_fits c.loop-place.network (network_of study c.args.sequence) c.loop-place.invariant.whole.limits exact;
       small = network_small study c.args.sequence c.requires;
       uncoupled = network_uncoupled study c.args.sequence c.requires;
       owners = network_owned study c.args.sequence c.requires;

@@ -11,7 +11,7 @@ pub returns-in-Some-settle-clause-next : goal.returns-in-Some-settle-clause-next
 returns-in-Some-settle-clause-next g c =
     let scan = c.walking.invariant.scan in
     let top = top_is c.walking.self-inside.stack c.in-Some.lo c.in-Some.hi c.in-Some.ensures in
-    let above = top_above c.walking.self-inside.test.spec.finest c.walking.self-inside.stack c.in-Some.lo c.in-Some.hi scan.stack top in
+    let above = top_above c.walking.self-inside.test.spec.from c.walking.self-inside.test.spec.finest c.walking.self-inside.stack c.in-Some.lo c.in-Some.hi scan.stack top in
     rw (← c.walking.invariant.left, c.settle.ensures.same, c.pop.ensures)
     (left_settled (box_test g.E.Enclosure.SCALE c.walking.self-inside.test) (widths_of c.walking.self-inside.test.spec)
     c.walking.self-inside.stack c.in-Some.lo c.in-Some.hi c.in-Some-settle.kind scan.stack.split above top c.in-Some-settle.ensures.value)
@@ -26,7 +26,7 @@ pub walking-preserved : goal.walking-preserved
 walking-preserved g c =
     let scan = c.walking.invariant.scan in
     let top = top_is c.walking.self-inside.stack c.in-Some.lo c.in-Some.hi c.in-Some.ensures in
-    let above = top_above c.walking.self-inside.test.spec.finest c.walking.self-inside.stack c.in-Some.lo c.in-Some.hi scan.stack top in
+    let above = top_above c.walking.self-inside.test.spec.from c.walking.self-inside.test.spec.finest c.walking.self-inside.stack c.in-Some.lo c.in-Some.hi scan.stack top in
     let wide = kind_none (box_test g.E.Enclosure.SCALE c.walking.self-inside.test) (widths_of c.walking.self-inside.test.spec) c.in-Some.lo c.in-Some.hi (sym c.in-None.ensures.value) in
     let at : c.in-Some.lo + (c.in-Some.hi - c.in-Some.lo) / 2 ≡ middle c.in-Some.lo c.in-Some.hi = omega (arith, above) in
     let split : c.split.new.self ≡ split_top c.walking.self-inside.stack (middle c.in-Some.lo c.in-Some.hi)

@@ -1,8 +1,0 @@
-use Rattle.std.proofs.Common.{arith}
-use Rattle.std.proofs.lemmas.Int.{ints}
-use Rattle.std.proofs.lemmas.Nat.{one_shl}
-use Rattle.exact_fraction.proofs.Steps.{pow_at_most}
-use Rattle.band_subdivision.proofs.interval_test.unit_of.Goals as goal
-
-pub returns-clause-bound : goal.returns-clause-bound
-returns-clause-bound c = let small = c.requires in let e = one_shl c.args.scale 128 (omega arith) in let b = pow_at_most c.args.scale 48 small in rw e (omega (arith, ints))

@@ -1,9 +1,0 @@
-use Rattle.std.proofs.Common.{◌≡◌, take}
-use Rattle.plain_elimination.specs.Pattern.{IsZeroOutside}
-use Rattle.sparse_cases.proofs.building.matrix_of.Given as goal
-
-abbrev pub invariant-loop-i : goal.invariant-loop-i
-invariant-loop-i l = record {
-  size : l.matrix.size ≡ l.pattern.size;
-  zeros : IsZeroOutside (take l.i l.pattern.places.items) l.matrix;
-}

@@ -1,5 +1,0 @@
-use Rattle.plain_elimination.specs.Pattern.{AreInside}
-use Rattle.sparse_cases.proofs.building.pattern_of.Given as goal
-
-abbrev pub invariant-loop-row : goal.invariant-loop-row
-invariant-loop-row l = AreInside l.size l.places.items

@@ -1,0 +1,4 @@
+pub mod Rising
+pub mod Lines
+pub mod Lesser
+pub mod Least
