@@ -1,4 +1,4 @@
-// The branch-wise test of a box of orders, on a bench: no call but the first takes memory.
+// Estimates of the impedance over a box of orders by the drops of nodes and branches, on a bench. No call but its first takes memory.
 #![tactic(auto)]
 
 mod bench;
@@ -20,3 +20,4 @@ mod whole;
 
 pub use bench::DropBench;
 pub use drops::DropIntervals;
+pub use near::Near;
