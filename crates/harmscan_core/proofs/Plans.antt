@@ -41,7 +41,7 @@ pub record Putting {E : Type 0} (study : Study) (plan : List (PlannedScan E)) (f
 
 pub putting_start : {E : Type 0} (study : Study) (plan : List (PlannedScan E)) (out : SinkState) → IsLawful study → IsPlan study plan → Putting study plan nothing_found out out
 putting_start {E} study plan out lawful is = record {
-  lawful = subst (AllByRecursion (IsLawfulScan study.version study.model study.buses)) (sym is.scans) (recursion_from_All (IsLawfulScan study.model study.buses) study.scans lawful.scans);
+  lawful = subst (AllByRecursion (IsLawfulScan study.version study.model study.buses)) (sym is.scans) (recursion_from_All (IsLawfulScan study.version study.model study.buses) study.scans lawful.scans);
   each = is.each;
   wrote = subst (λ (l : List ScanItem). WroteFront out out (scans_text study l) (scans_text study study.scans)) (sym is.scans) (front_start out (scans_text study study.scans));
   counts = ap (found_in study nothing_found) is.scans ∙ found_is study;

@@ -267,7 +267,7 @@ fn net_word(network: Sequence) -> NetWord
 }
 
 /// Puts a scan's first row.
-#[tactic(auto, unfolding(crate::specs::Texts::head_text))]
+#[tactic(auto, unfolding(crate::specs::Texts::head_text), using(crate::proofs::StudyFacts::threshold_above))]
 fn put_head<O: Sink>(
     study: &Study,
     scan: &ScanItem,
