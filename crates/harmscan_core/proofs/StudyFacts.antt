@@ -1,5 +1,5 @@
 -- What follows from a study that can be scanned.
-use Rattle.std.proofs.Common.{◌≡◌, ◌≢◌, ◌⊎◌, inl, inr, ◌≤◌, ◌<◌, ◌∙◌, ℕ, ℤ, pos, negsuc, ◌≤ℤ◌, unsigned_abs, List, [], ◌∷◌, length, Option, Some, None, ap, subst, refl, arith}
+use Rattle.std.proofs.Common.{◌≡◌, ◌≢◌, ◌⊎◌, inl, inr, ◌≤◌, ◌<◌, ◌∙◌, ℕ, ℤ, pos, negsuc, ◌≤ℤ◌, unsigned_abs, List, [], ◌∷◌, length, get_or, Option, Some, None, ap, sym, subst, refl, arith}
 use Rattle.std.proofs.lemmas.Int.{ints}
 use Rattle.std.specs.Prelude.{IsTrue}
 use Rattle.std.specs.List.{AllByRecursion}
@@ -90,6 +90,14 @@ live_at study bus Zero n inside zero = zero refl
 -- the bus of a scan is live in the scan's network
 pub scan_live : (study : Study) (scan : ScanItem) → HasLiveNetworks study → IsLawfulScan study.version study.model study.buses scan → IsLiveScan (network_of study Zero) scan → Live (network_of study scan.network) scan.bus
 scan_live study scan n s live = live_at study scan.bus scan.network n s.bus live
+
+-- so is the bus of the scan at a place
+pub scan_live_at : (study : Study) (scans : List ScanItem) (i : ℕ) (scan : ScanItem) → HasLiveNetworks study → IsLawful study → scans ≡ study.scans → i < length scans → scan ≡ get_or scans i scan → Live (network_of study scan.network) scan.bus
+scan_live_at study scans i scan n b same inside there =
+    let within : i < length study.scans = subst (λ (l : List ScanItem). i < length l) same inside in
+    let here : scan ≡ get_or study.scans i scan = subst (λ (l : List ScanItem). scan ≡ get_or l i scan) same there in
+    let lawful = subst (IsLawfulScan study.version study.model study.buses) (sym here) (b.scans i scan within) in
+    scan_live study scan n lawful (subst (IsLiveScan (network_of study Zero)) (sym here) (n.scans i scan within))
 
 -- ---- truth
 sound : (study : Study) (scan : ScanItem) → IsLawful study → IsLawfulScan study.version study.model study.buses scan → CanScan study scan → IsSound (unsigned_abs scan.from) (looked_at study scan) (test_of study scan)

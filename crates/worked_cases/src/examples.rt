@@ -1,5 +1,5 @@
-// The studies of examples/, which a check after the gate compares with those files, and their reports, which another program
-// computed (tools/oracle).
+// The studies of examples/, which a check after the gate compares with those files, and their reports. Those by elimination with one
+// threshold were computed by another program too (tools/oracle).
 use crate::answers::{assert_long_report, assert_reports};
 use std::test::Fail;
 
@@ -289,12 +289,84 @@ summary,zero-sequence,1131,1131,0,0,0
 end,3
 ";
 
+/// examples/both.toml.
+const BOTH: &str =
+    r#"# A bank at the end of a cable, seen from the intake. Near order 16 the bank and the cable are in resonance behind the
+# intake, and elimination divides by an interval that holds zero. Both methods are asked: the certified inverse clears what
+# elimination leaves undecided, and in fewer boxes.
+study = { version = 1, mva = "100", method = "both" }
+bus = [{ name = "INTAKE", kv = "11" }, { name = "WORKS", kv = "11" }]
+source = [{ name = "GRID", bus = "INTAKE", r = "0.07", x = "0.716" }]
+line = [{ name = "CABLE", from = "INTAKE", to = "WORKS", r = "0.08", x = "0.12" }]
+bank = [{ name = "C1", bus = "WORKS", q = "4" }]
+
+[[scan]]
+name = "s1"
+bus = "INTAKE"
+from = "10"
+to = "25"
+threshold = "50"
+finest = "1"
+locate = "4"
+"#;
+
+const BOTH_REPORT: &str = "\
+scan,s1,INTAKE,positive,10.000000,25.000000,50.000000,both
+box,1,10.000000,10.937500,cleared,-,-
+box,2,10.937500,11.875000,cleared,-,-
+box,3,11.875000,13.750000,cleared,-,-
+box,4,13.750000,17.500000,cleared,-,-
+box,5,17.500000,25.000000,cleared,-,-
+summary,s1,5,5,0,0,0
+end,0
+";
+
+/// examples/curve.toml.
+const CURVE: &str =
+    r#"# The 11 kV works bus of industrial.toml. The planner allows 40 ohms up to order 5 and 160 ohms from order 7 on, with a
+# straight line between. Where is the impedance above that?
+study = { version = 2, mva = "100" }
+bus = [{ name = "WORKS", kv = "11" }]
+source = [{ name = "GRID", bus = "WORKS", r = "0.07", x = "0.716" }]
+bank = [{ name = "C1", bus = "WORKS", q = "4" }]
+
+[[scan]]
+name = "s1"
+bus = "WORKS"
+from = "2"
+to = "13"
+curve_at = ["2", "5", "7", "13"]
+curve_ohms = ["40", "40", "160", "160"]
+finest = "0.01"
+locate = "0.1"
+"#;
+
+const CURVE_REPORT: &str = "\
+scan,s1,WORKS,positive,2.000000,13.000000,curve,elimination
+box,1,2.000000,4.750000,cleared,-,-
+box,2,4.750000,6.125000,cleared,-,-
+box,3,6.125000,6.296875,cleared,-,-
+box,4,6.296875,6.339843,cleared,-,-
+box,5,6.339843,6.382812,cleared,-,-
+box,6,6.382812,6.468750,peak,6.425781,169.700485
+box,7,6.468750,6.554687,peak,6.511718,300.788350
+box,8,6.554687,6.640625,peak,6.597656,139.216184
+region,1,6.382812,6.640625,319.140600,332.031250,3,0,6.511718,300.788350
+box,9,6.640625,6.812500,cleared,-,-
+box,10,6.812500,7.500000,cleared,-,-
+box,11,7.500000,13.000000,cleared,-,-
+summary,s1,11,8,3,0,1
+end,3
+";
+
 #[test]
 fn examples(rt: HostRuntime) -> Result<(), Fail> {
     let cases = [
         (SAFE, SAFE_REPORT, 0),
         (WORKS, WORKS_REPORT, 3),
         (LOCATE, LOCATE_REPORT, 3),
+        (BOTH, BOTH_REPORT, 0),
+        (CURVE, CURVE_REPORT, 3),
     ];
     assert_reports(&rt, rt.alloc(), &cases)
 }
