@@ -3,8 +3,8 @@
 
 usage: compare.py PROGRAM [--count N] [--seed S]
 
-Each study has one to four buses and elements of every kind, in both networks and at either scale; a study that the program refuses
-counts as refused, and its scan is not compared. Prints a line for each study that differs and keeps it in the current folder; the
+Each study has one to four buses and elements of every kind, in both networks, at either scale, by either method and of either version;
+a study that the program refuses counts as refused, and its scan is not compared. Prints a line for each study that differs and keeps it in the current folder; the
 status is 1 where one does.
 """
 import argparse
@@ -76,11 +76,18 @@ def tuned(rng, name, bus):
     return table("filter", name=name, bus=bus, kind=f'"{kind}"', q=number(rng, 0.1, 9), order=number(rng, 2, 13), quality=number(rng, 1, 90), **shunt_kind(rng))
 
 
+def threshold(rng, low, high):
+    points = sorted({f"{at:.3f}" for at in [low - rng.uniform(0, 0.3), high + rng.uniform(0, 3)] + [rng.uniform(low, high) for _ in range(rng.randrange(0, 4))]}, key=float)
+    return dict(curve_at=str([at for at in points]).replace("'", '"'), curve_ohms="[" + ", ".join(number(rng, 0.5, 60) for _ in points) + "]")
+
+
 def study(rng):
     count = rng.randrange(1, 5)
     buses = [f'"B{n}"' for n in range(count)]
     kv = rng.choice([10, 33, 110])
-    text = f"[study]\nversion = 1\nmva = {rng.choice([10, 100])}\nhz = {rng.choice([50, 60])}\nscale = {rng.choice([40, 48])}\n"
+    version = rng.choice([1, 2])
+    text = f"[study]\nversion = {version}\nmva = {rng.choice([10, 100])}\nhz = {rng.choice([50, 60])}\nscale = {rng.choice([40, 48])}\n"
+    text += f'method = "{rng.choice(["elimination", "both"])}"\n'
     text += "".join(table("bus", name=bus, kv=kv) for bus in buses)
     text += source(rng, '"S"', buses[0])
     # every bus hangs on one before it, by a line or a transformer
@@ -91,9 +98,10 @@ def study(rng):
         text += "".join(make(rng, f'"{letter}{n}"', rng.choice(buses)) for n in range(rng.randrange(0, 3)))
     for n in range(rng.randrange(1, 3)):
         low = rng.uniform(0.5, 12)
+        high = low + rng.uniform(0.1, 3)
         text += table("scan", name=f'"s{n}"', bus=rng.choice(buses), network=rng.choice([None, '"positive"', '"zero"']),
-                      **{"from": f'"{low:.3f}"', "to": f'"{low + rng.uniform(0.1, 3):.3f}"'},
-                      threshold=number(rng, 0.5, 60), finest='"0.02"', locate=rng.choice([None, '"0.1"', '"0.5"']))
+                      **{"from": f'"{low:.3f}"', "to": f'"{high:.3f}"'},
+                      **(threshold(rng, low, high) if version == 2 else dict(threshold=number(rng, 0.5, 60))), finest='"0.02"', locate=rng.choice([None, '"0.1"', '"0.5"']))
     return text
 
 

@@ -3,10 +3,11 @@
 
 usage: scan.py STUDY
 
-It follows docs/elements.md, arithmetic.md, admittance.md, elimination.md, scan.md and report.md over Python's whole numbers and
-exact fractions, and shares no code with harmscan. It takes accepted studies of the sequence model alone, and judges nothing: of a
+It follows docs/elements.md, arithmetic.md, admittance.md, elimination.md, inverse.md, scan.md and report.md over Python's whole
+numbers and exact fractions, and shares no code with harmscan. It takes accepted studies of the sequence model alone, and judges nothing: of a
 study that harmscan refuses it says nothing, or anything. It is slow: a test of a box takes milliseconds.
 """
+import math
 import sys
 import tomllib
 from fractions import Fraction
@@ -144,7 +145,87 @@ def high_square(z):
     return mag(z[0]) ** 2 + mag(z[1]) ** 2
 
 
+def size(z):
+    return mag(z[0]) + mag(z[1])
+
+
 NOUGHT = ((0, 0), (0, 0))
+
+
+# ---- the certified inverse: an entry of a solution with the bound of its error
+
+def point(re, im=0):
+    return ((re, re), (im, im))
+
+
+def low_point(z):
+    return point(z[0][0], z[1][0])
+
+
+def middle_inverse(a, rows):
+    """The inverse of the middles of the entries."""
+    n = len(rows)
+    one = point(a.one_raw)
+    work = [[point((x[0][0] + x[0][1]) // 2, (x[1][0] + x[1][1]) // 2) for x in row] for row in rows]
+    work = [row + [one if i == j else NOUGHT for j in range(n)] for i, row in enumerate(work)]
+    for j in range(n):
+        best = max(range(j, n), key=lambda i: (size(work[i][j]), -i))
+        if size(work[best][j]) == 0:
+            raise NoValue
+        work[j], work[best] = work[best], work[j]
+        pivot = work[j][j]
+        work[j] = [low_point(a.cdiv(x, pivot)) for x in work[j]]
+        for i in range(n):
+            if i != j:
+                factor = work[i][j]
+                work[i] = [low_point(a.csub(x, low_point(a.cmul(factor, y)))) for x, y in zip(work[i], work[j])]
+    return [row[n:] for row in work]
+
+
+def dot(a, xs, ys):
+    total = NOUGHT
+    for x, y in zip(xs, ys):
+        total = a.cadd(total, a.cmul(x, y))
+    return total
+
+
+def enclosed(a, rows):
+    """The last entry of the solution for the unit column there, and the bound of its error, in units of 1/2^S."""
+    n = len(rows)
+    one = point(a.one_raw)
+    unit = [[one if i == j else NOUGHT for j in range(n)] for i in range(n)]
+    guess = middle_inverse(a, rows)
+    columns = list(zip(*rows))
+    theta = max(sum(size(a.csub(unit[i][j], dot(a, guess[i], columns[j]))) for j in range(n)) for i in range(n))
+    if theta >= a.one_raw:
+        raise NoValue
+    x = [row[-1] for row in guess]
+    left = [a.csub(e, dot(a, row, x)) for e, row in zip(unit[-1], rows)]
+    sigma = max(size(dot(a, row, left)) for row in guess)
+    error = ceil_div(sigma << a.scale, a.one_raw - theta)
+    if sigma > LIMIT or error > LIMIT:
+        raise NoValue
+    return x[-1][0][0], x[-1][1][0], error
+
+
+# ---- a threshold over the orders
+
+class Curve:
+    def __init__(self, entry):
+        if "threshold" in entry:
+            ohms = millionths(str(entry["threshold"]))
+            self.points = [(MILLION // 10, ohms), (100 * MILLION, ohms)]
+        else:
+            self.points = [(millionths(str(at)), millionths(str(ohms))) for at, ohms in zip(entry["curve_at"], entry["curve_ohms"])]
+
+    def at(self, x):
+        for (a, v), (b, w) in zip(self.points, self.points[1:]):
+            if a <= x <= b:
+                return v + Fraction((w - v) * (x - a), b - a)
+        raise AssertionError
+
+    def least(self, lo, hi):
+        return min([self.at(lo), self.at(hi)] + [Fraction(ohms) for at, ohms in self.points if lo < at < hi])
 
 
 # ---- networks: branches are (taps, law); a tap is (node, ratio)
@@ -312,12 +393,9 @@ class Scan:
         self.size = len(ordering)
         self.branches = [b for b in net.branches if b[0][0][0] in live]
         self.prepared = None
-        v, s = millionths(str(study.table["bus"][self.bus]["kv"])), millionths(str(study.table["study"]["mva"]))
-        threshold = millionths(str(entry["threshold"]))
-        # 2^S/T, with T = threshold·s/v²
-        top, bottom = v * v << study.scale, threshold * s
-        self.clear_bound, self.above_bound = ceil_div(top, bottom), floor_div(top, bottom)
-        self.ohms_top, self.ohms_bottom = v * v << study.scale, s
+        self.v, self.s = millionths(str(study.table["bus"][self.bus]["kv"])), millionths(str(study.table["study"]["mva"]))
+        self.curve = Curve(entry)
+        self.both = study.table["study"].get("method") == "both"
         self.finest = millionths(str(entry["finest"]))
         self.locate = millionths(str(entry.get("locate", entry["finest"])))
         self.lo, self.hi = millionths(str(entry["from"])), millionths(str(entry["to"]))
@@ -339,7 +417,7 @@ class Scan:
         reactance = a.sub(a.mul(h, x), a.div(xc, h))
         return a.cdiv((one, (0, 0)), (r, reactance))
 
-    def reduced(self, lo, hi):
+    def matrix(self, lo, hi):
         a = self.a
         if self.prepared is None:
             self.prepared = [self.parameters(b) for b in self.branches]
@@ -349,6 +427,11 @@ class Scan:
             y = self.admittance(h, branch)
             for row, column, factor in branch[3]:
                 rows[row][column] = a.cadd(rows[row][column], a.cscale(y, factor))
+        return rows
+
+    def reduced(self, rows):
+        a = self.a
+        rows = [row[:] for row in rows]
         for step in range(self.size - 1):
             pivot = rows[step]
             head = pivot[step]
@@ -364,21 +447,48 @@ class Scan:
         # H·e with e = 0
         return value
 
-    def value(self, lo, hi):
+    def by_elimination(self, rows, T):
+        """The answers of the elimination part: whether it clears, and its micro-ohms. T is the threshold per unit."""
+        clear_bound, above_bound = math.ceil((1 << self.a.scale) / T), math.floor((1 << self.a.scale) / T)
         try:
-            return self.reduced(lo, hi)
+            y = self.reduced(rows)
         except NoValue:
-            return None
+            return False, None
+        clear = clear_bound <= LIMIT and low_square(y) >= clear_bound ** 2
+        if above_bound > LIMIT or not (high_square(y) < above_bound ** 2 and low_square(y) > 0):
+            return clear, None
+        return clear, (self.v * self.v << self.a.scale) // (self.s * root_ceil(high_square(y)))
+
+    def by_inverse(self, rows, T):
+        """The same of the inverse part."""
+        most, least = math.floor(T * (1 << self.a.scale)), math.ceil(T * (1 << self.a.scale))
+        try:
+            re, im, error = enclosed(self.a, rows)
+        except NoValue:
+            return False, None
+        square = re * re + im * im
+        clear = most <= LIMIT and root_ceil(square) + error <= most
+        over = math.isqrt(square) - error
+        if least > LIMIT or over <= least:
+            return clear, None
+        return clear, over * self.v * self.v // ((1 << self.a.scale) * self.s)
+
+    def answers(self, lo, hi):
+        """The answers of both parts, the first of them first."""
+        T = self.curve.least(lo, hi) * self.s / (self.v * self.v)
+        try:
+            rows = self.matrix(lo, hi)
+        except NoValue:
+            return
+        yield self.by_elimination(rows, T)
+        if self.both and hi - lo <= self.locate:
+            yield self.by_inverse(rows, T)
 
     def is_clear(self, lo, hi):
-        y = self.value(lo, hi)
-        return self.clear_bound <= LIMIT and y is not None and low_square(y) >= self.clear_bound ** 2
+        return any(clear for clear, _ in self.answers(lo, hi))
 
     def micro_ohms(self, at):
-        y = self.value(at, at)
-        if self.above_bound > LIMIT or y is None or not (high_square(y) < self.above_bound ** 2 and low_square(y) > 0):
-            return None
-        return self.ohms_top // (self.ohms_bottom * root_ceil(high_square(y)))
+        return next((ohms for _, ohms in self.answers(at, at) if ohms is not None), None)
 
     def boxes(self):
         todo = [(self.lo, self.hi)]
@@ -400,7 +510,6 @@ class Scan:
 
 
 def root_ceil(n):
-    import math
     root = math.isqrt(n)
     return root if root * root == n else root + 1
 
@@ -425,8 +534,9 @@ def report(table):
     status = 0
     for entry in table.get("scan", []):
         scan = Scan(study, entry)
-        threshold = six(millionths(str(entry["threshold"])))
-        yield f"scan,{entry['name']},{entry['bus']},{entry.get('network', 'positive')},{six(scan.lo)},{six(scan.hi)},{threshold},elimination"
+        threshold = six(millionths(str(entry["threshold"]))) if "threshold" in entry else "curve"
+        method = table["study"].get("method", "elimination")
+        yield f"scan,{entry['name']},{entry['bus']},{entry.get('network', 'positive')},{six(scan.lo)},{six(scan.hi)},{threshold},{method}"
         counts, regions, run, number = {"cleared": 0, "peak": 0, "undecided": 0}, 0, [], 0
         for box in scan.boxes():
             if box[2] == "cleared" and run:
