@@ -18,6 +18,8 @@ mod puts;
 #[cfg(test)]
 mod readings;
 #[cfg(test)]
+mod recipes;
+#[cfg(test)]
 mod refusals;
 #[cfg(test)]
 mod refused;

@@ -1,7 +1,6 @@
 // Reports, through the program.
-use crate::answers::{Answer, SCAN, assert_answer, assert_long_report, assert_reports, joined};
-use crate::{curves, networks, studies};
-use harm_io::SteadyShelf;
+use crate::answers::{assert_long_report, assert_reports, joined};
+use crate::{curves, examples, networks, recipes, studies};
 use std::test::Fail;
 
 #[test]
@@ -42,36 +41,23 @@ fn reports(rt: HostRuntime) -> Result<(), Fail> {
             3,
         ),
         (studies::TWO_BUSES, studies::TWO_BUSES_REPORT, 3),
-    ];
-    for (study, report, status) in cases {
-        let mut shelf = SteadyShelf::new(rt.alloc());
-        shelf.add_file("study.toml", study.as_bytes())?;
-        let answer = Answer {
-            status,
-            out: report,
-            err: "",
-        };
-        assert_answer(&rt, rt.alloc(), &SCAN, &mut shelf, &answer)?;
-    }
-    Ok(())
-}
-
-#[test]
-fn reports_of_lines_transformers_and_filters(rt: HostRuntime) -> Result<(), Fail> {
-    let cases = [
         (networks::FILTER, networks::FILTER_REPORT, 3),
         (networks::FAR_BANK, networks::FAR_BANK_REPORT, 4),
         (networks::FAR_BANK_BOTH, networks::FAR_BANK_BOTH_REPORT, 0),
         (networks::EVERY_ELEMENT, networks::EVERY_ELEMENT_REPORT, 3),
         (networks::FULL, studies::NO_SCAN_REPORT, 0),
         (studies::TWO_RESONANCES, studies::TWO_RESONANCES_REPORT, 3),
-    ];
-    assert_reports(&rt, rt.alloc(), &cases)
-}
-
-#[test]
-fn reports_of_curves(rt: HostRuntime) -> Result<(), Fail> {
-    let cases = [
+        (examples::SAFE, examples::SAFE_REPORT, 0),
+        (examples::WORKS, examples::WORKS_REPORT, 3),
+        (examples::LOCATE, examples::LOCATE_REPORT, 3),
+        (examples::BOTH, examples::BOTH_REPORT, 0),
+        (examples::CURVE, examples::CURVE_REPORT, 3),
+        (recipes::MOVED, recipes::MOVED_REPORT, 0),
+        (recipes::VOLTAGE, recipes::VOLTAGE_REPORT, 3),
+        (recipes::TUNED, recipes::TUNED_REPORT, 3),
+        (recipes::DETUNED, recipes::DETUNED_REPORT, 0),
+        (recipes::ZERO, recipes::ZERO_REPORT, 3),
+        (recipes::OPEN, recipes::OPEN_REPORT, 4),
         (curves::LEVEL, curves::LEVEL_REPORT, 0),
         (curves::RISING, curves::RISING_REPORT, 0),
     ];
@@ -91,5 +77,14 @@ fn an_industrial_plant(rt: HostRuntime) -> Result<(), Fail> {
         networks::INDUSTRIAL_BOTH_END,
     );
     assert_long_report(&rt, rt.alloc(), &study, ends, 0)?;
+    Ok(())
+}
+
+/// The report has 4416 lines, of which the first and the last ones are compared, and its length.
+#[test]
+fn the_plant(rt: HostRuntime) -> Result<(), Fail> {
+    let ends = (examples::PLANT_FRONT, examples::PLANT_END);
+    let length = assert_long_report(&rt, rt.alloc(), examples::PLANT, ends, 3)?;
+    assert_eq!(rt; length, 171_062);
     Ok(())
 }

@@ -1,0 +1,208 @@
+// The studies of docs/recipes.md, which a check after the gate compares with the files of examples/ and with that page, and their reports,
+// which another program computed (tools/oracle).
+
+/// examples/moved.toml.
+pub const MOVED: &str =
+    r#"# The works bus of industrial.toml with a bank of 2.4 MVAr in the place of 4. The six-pulse converters of the works inject at the
+# orders 5, 7, 11 and 13. Is the impedance at most 40 ohms around each of them?
+study = { version = 1, mva = "100" }
+bus = [{ name = "WORKS", kv = "11" }]
+source = [{ name = "GRID", bus = "WORKS", r = "0.07", x = "0.716" }]
+bank = [{ name = "C1", bus = "WORKS", q = "2.4" }]
+scan = [
+  { name = "around-5-and-7", bus = "WORKS", from = "4.5", to = "7.5", threshold = "40", finest = "0.01", locate = "0.4" },
+  { name = "around-11-and-13", bus = "WORKS", from = "10.5", to = "13.5", threshold = "40", finest = "0.01", locate = "0.4" },
+]
+"#;
+
+pub const MOVED_REPORT: &str = "\
+scan,around-5-and-7,WORKS,positive,4.500000,7.500000,40.000000,elimination
+box,1,4.500000,7.500000,cleared,-,-
+summary,around-5-and-7,1,1,0,0,0
+scan,around-11-and-13,WORKS,positive,10.500000,13.500000,40.000000,elimination
+box,1,10.500000,13.500000,cleared,-,-
+summary,around-11-and-13,1,1,0,0,0
+end,0
+";
+
+/// examples/voltage.toml.
+pub const VOLTAGE: &str =
+    r#"# The works bus of industrial.toml. Its converters inject at most 6 A at order 5, 4.2 A at order 7, 2.7 A at order 11 and 2.1 A at
+# order 13, and each voltage may be 3 percent of the phase voltage, which is 190.525 V. So the impedance may be 31.754, 45.363, 70.564
+# and 90.726 ohms there, and between two of these orders what lies on the straight line.
+study = { version = 2, mva = "100" }
+bus = [{ name = "WORKS", kv = "11" }]
+source = [{ name = "GRID", bus = "WORKS", r = "0.07", x = "0.716" }]
+bank = [{ name = "C1", bus = "WORKS", q = "4" }]
+
+[[scan]]
+name = "s1"
+bus = "WORKS"
+from = "5"
+to = "13"
+curve_at = ["5", "7", "11", "13"]
+curve_ohms = ["31.754", "45.363", "70.564", "90.726"]
+finest = "0.01"
+locate = "0.4"
+"#;
+
+pub const VOLTAGE_REPORT: &str = "\
+scan,s1,WORKS,positive,5.000000,13.000000,curve,elimination
+box,1,5.000000,6.000000,cleared,-,-
+box,2,6.000000,6.250000,peak,6.250000,58.284809
+box,3,6.250000,6.500000,peak,6.375000,111.836409
+box,4,6.500000,6.750000,peak,6.625000,113.547511
+box,5,6.750000,7.000000,peak,6.750000,60.435355
+region,1,6.000000,7.000000,300.000000,350.000000,4,0,6.625000,113.547511
+box,6,7.000000,9.000000,cleared,-,-
+box,7,9.000000,13.000000,cleared,-,-
+summary,s1,7,3,4,0,1
+end,3
+";
+
+/// examples/tuned.toml.
+pub const TUNED: &str =
+    r#"# The works bus of industrial.toml with a filter of 4 MVAr that is tuned to order 5, in the place of the plain bank.
+study = { version = 1, mva = "100" }
+bus = [{ name = "WORKS", kv = "11" }]
+source = [{ name = "GRID", bus = "WORKS", r = "0.07", x = "0.716" }]
+filter = [{ name = "F5", bus = "WORKS", kind = "single", q = "4", order = "5", quality = "30" }]
+
+[[scan]]
+name = "s1"
+bus = "WORKS"
+from = "2"
+to = "13"
+threshold = "20"
+finest = "0.01"
+locate = "0.2"
+"#;
+
+pub const TUNED_REPORT: &str = "\
+scan,s1,WORKS,positive,2.000000,13.000000,20.000000,elimination
+box,1,2.000000,3.375000,cleared,-,-
+box,2,3.375000,3.718750,cleared,-,-
+box,3,3.718750,3.890625,peak,3.890625,21.886083
+box,4,3.890625,4.062500,peak,3.976562,28.863023
+region,1,3.718750,4.062500,185.937500,203.125000,2,0,3.976562,28.863023
+box,5,4.062500,4.750000,cleared,-,-
+box,6,4.750000,5.437500,cleared,-,-
+box,7,5.437500,6.125000,cleared,-,-
+box,8,6.125000,7.500000,cleared,-,-
+box,9,7.500000,13.000000,cleared,-,-
+summary,s1,9,7,2,0,1
+end,3
+";
+
+/// examples/detuned.toml.
+pub const DETUNED: &str =
+    r#"# The works bus of industrial.toml with a filter of 4 MVAr that is detuned: its reactor of 7 percent sets it to order 3.78, below every order that is injected.
+study = { version = 1, mva = "100" }
+bus = [{ name = "WORKS", kv = "11" }]
+source = [{ name = "GRID", bus = "WORKS", r = "0.07", x = "0.716" }]
+filter = [{ name = "F378", bus = "WORKS", kind = "single", q = "4", order = "3.78", quality = "30" }]
+
+[[scan]]
+name = "s1"
+bus = "WORKS"
+from = "2"
+to = "13"
+threshold = "20"
+finest = "0.01"
+locate = "0.2"
+"#;
+
+pub const DETUNED_REPORT: &str = "\
+scan,s1,WORKS,positive,2.000000,13.000000,20.000000,elimination
+box,1,2.000000,2.687500,cleared,-,-
+box,2,2.687500,3.031250,cleared,-,-
+box,3,3.031250,3.203125,cleared,-,-
+box,4,3.203125,3.246093,cleared,-,-
+box,5,3.246093,3.289062,cleared,-,-
+box,6,3.289062,3.375000,cleared,-,-
+box,7,3.375000,4.062500,cleared,-,-
+box,8,4.062500,4.750000,cleared,-,-
+box,9,4.750000,7.500000,cleared,-,-
+box,10,7.500000,13.000000,cleared,-,-
+summary,s1,10,10,0,0,0
+end,0
+";
+
+/// examples/zero.toml.
+pub const ZERO: &str =
+    r#"# A works behind a transformer whose delta winding looks to the grid, with a grounded bank. In the zero sequence the grid isn't seen:
+# the bank is in resonance with the transformer alone.
+study = { version = 1, mva = "100" }
+bus = [{ name = "GRID", kv = "110" }, { name = "WORKS", kv = "20" }]
+source = [{ name = "S1", bus = "GRID", r = "0.6", x = "12", r0 = "1", x0 = "24" }]
+transformer = [{ name = "T1", from = "GRID", to = "WORKS", mva = "25", r = "0.5", x = "11", from_conn = "delta", to_conn = "grounded" }]
+bank = [{ name = "C1", bus = "WORKS", q = "2", grounded = true }]
+scan = [
+  { name = "positive", bus = "WORKS", from = "2", to = "13", threshold = "200", finest = "0.01", locate = "0.7" },
+  { name = "zero", bus = "WORKS", network = "zero", from = "2", to = "13", threshold = "200", finest = "0.01", locate = "0.7" },
+]
+"#;
+
+pub const ZERO_REPORT: &str = "\
+scan,positive,WORKS,positive,2.000000,13.000000,200.000000,elimination
+box,1,2.000000,3.375000,cleared,-,-
+box,2,3.375000,4.750000,cleared,-,-
+box,3,4.750000,6.125000,cleared,-,-
+box,4,6.125000,7.500000,cleared,-,-
+box,5,7.500000,8.187500,cleared,-,-
+box,6,8.187500,8.875000,cleared,-,-
+box,7,8.875000,9.562500,peak,9.218750,237.571833
+box,8,9.562500,10.250000,peak,9.906250,365.635384
+region,1,8.875000,10.250000,443.750000,512.500000,2,0,9.906250,365.635384
+box,9,10.250000,10.593750,cleared,-,-
+box,10,10.593750,10.937500,cleared,-,-
+box,11,10.937500,11.625000,cleared,-,-
+box,12,11.625000,13.000000,cleared,-,-
+summary,positive,12,10,2,0,1
+scan,zero,WORKS,zero,2.000000,13.000000,200.000000,elimination
+box,1,2.000000,7.500000,cleared,-,-
+box,2,7.500000,8.875000,cleared,-,-
+box,3,8.875000,9.562500,cleared,-,-
+box,4,9.562500,10.250000,peak,10.250000,238.748850
+box,5,10.250000,10.937500,peak,10.593750,1423.095343
+box,6,10.937500,11.625000,peak,10.937500,363.790378
+region,1,9.562500,11.625000,478.125000,581.250000,3,0,10.593750,1423.095343
+box,7,11.625000,13.000000,cleared,-,-
+summary,zero,7,4,3,0,1
+end,3
+";
+
+/// examples/open.toml.
+pub const OPEN: &str =
+    r#"# The study of both.toml by elimination alone: near order 16 the bank and the cable are in resonance behind the intake, elimination
+# divides by an interval that holds zero, and one box stays undecided.
+study = { version = 1, mva = "100" }
+bus = [{ name = "INTAKE", kv = "11" }, { name = "WORKS", kv = "11" }]
+source = [{ name = "GRID", bus = "INTAKE", r = "0.07", x = "0.716" }]
+line = [{ name = "CABLE", from = "INTAKE", to = "WORKS", r = "0.08", x = "0.12" }]
+bank = [{ name = "C1", bus = "WORKS", q = "4" }]
+
+[[scan]]
+name = "s1"
+bus = "INTAKE"
+from = "10"
+to = "25"
+threshold = "50"
+finest = "1"
+locate = "4"
+"#;
+
+pub const OPEN_REPORT: &str = "\
+scan,s1,INTAKE,positive,10.000000,25.000000,50.000000,elimination
+box,1,10.000000,10.937500,cleared,-,-
+box,2,10.937500,11.875000,cleared,-,-
+box,3,11.875000,13.750000,cleared,-,-
+box,4,13.750000,14.687500,cleared,-,-
+box,5,14.687500,15.625000,undecided,-,-
+region,1,14.687500,15.625000,734.375000,781.250000,0,1,-,-
+box,6,15.625000,16.562500,cleared,-,-
+box,7,16.562500,17.500000,cleared,-,-
+box,8,17.500000,25.000000,cleared,-,-
+summary,s1,8,7,0,1,1
+end,4
+";
