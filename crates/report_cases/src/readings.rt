@@ -54,7 +54,7 @@ fn whole_reports(rt: HostRuntime) {
 }
 
 /// Texts that are no report, each with its first line that is none.
-const BAD: [(&str, &str, u32); 23] = [
+const BAD: [(&str, &str, u32); 24] = [
     ("no bytes", "", 1),
     ("an empty line", "\n", 1),
     ("no line feed", "end,0", 1),
@@ -67,6 +67,11 @@ const BAD: [(&str, &str, u32); 23] = [
     (
         "a box before a scan",
         "box,1,1.000000,10.000000,cleared,-,-\nend,0\n",
+        1,
+    ),
+    (
+        "a drill",
+        "drill,7,120\nsummary,s1,256,0,0,256,1\nend,4\n",
         1,
     ),
     (

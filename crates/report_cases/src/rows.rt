@@ -1,7 +1,7 @@
 // Rows and their text, written by hand.
 use fixed_decimal::Decimal;
 use scan_report::{
-    BoxWord, LineBuf, NetWord, Row, box_row, end_row, region_row, scan_row, summary_row,
+    BoxWord, LineBuf, NetWord, Row, box_row, drill_row, end_row, region_row, scan_row, summary_row,
 };
 use std::process::Abort;
 use std::test::Fail;
@@ -49,7 +49,14 @@ fn scans_with_a_threshold_and_with_a_curve(rt: HostRuntime) -> Result<(), Fail> 
 }
 
 #[test]
-fn a_summary_and_an_end(rt: HostRuntime) -> Result<(), Fail> {
+fn a_drill_a_summary_and_an_end(rt: HostRuntime) -> Result<(), Fail> {
+    let mut line = LineBuf::new();
+    let drill = Row::Drill {
+        number: 999_999,
+        nodes: 120,
+    };
+    drill_row(&drill, &mut line);
+    assert_line(&rt, "drill", &line, "drill,999999,120\n");
     let summary = Row::Summary {
         name: name("s1")?,
         boxes: 6,
@@ -58,7 +65,6 @@ fn a_summary_and_an_end(rt: HostRuntime) -> Result<(), Fail> {
         undecided: 0,
         regions: 1,
     };
-    let mut line = LineBuf::new();
     summary_row(&summary, &mut line);
     assert_line(&rt, "summary", &line, "summary,s1,6,2,4,0,1\n");
     end_row(&Row::End { status: 3 }, &mut line);

@@ -2,11 +2,11 @@
 use Rattle.std.proofs.Common.{◌≡◌, ◌∙◌, ap, ℕ, ◌≤◌, Bool, true, false, List, ◌++◌, length, refl, arith, append_assoc}
 use Rattle.std.specs.Prelude.{◌==◌, if◌then◌else◌}
 use Rattle.scan_report.specs.declared.rows.Row.{Row}
-use Rattle.scan_report.specs.declared.rows.Row.TheVariants.{Scan, BoxLine, Region, Summary, End}
+use Rattle.scan_report.specs.declared.rows.Row.TheVariants.{Scan, BoxLine, Region, Summary, Drill, End}
 use Rattle.scan_report.specs.Fields.{fields_text}
 use Rattle.scan_report.specs.Rows.{word_of, fields_of, row_text}
 use Rattle.scan_report.specs.Reading.{IsRow}
-use Rattle.scan_report.specs.Loose.{after_field, first_of, second_of, scan_of, box_of, region_of, summary_of, end_of, row_of}
+use Rattle.scan_report.specs.Loose.{after_field, first_of, second_of, scan_of, box_of, region_of, summary_of, drill_of, end_of, row_of}
 use Rattle.scan_report.proofs.Fronts.{Inner}
 use Rattle.scan_report.proofs.FieldBack.{fields_in, fields_are, fields_with, with_tail, field_passed, fields_back}
 
@@ -15,6 +15,7 @@ inner_word (Scan name bus network from to threshold method) = record { is = refl
 inner_word (BoxLine number lo hi word at ohms) = record { is = refl }
 inner_word (Region number lo hi hertz_lo hertz_hi peaks undecided at ohms) = record { is = refl }
 inner_word (Summary name boxes cleared peaks undecided regions) = record { is = refl }
+inner_word (Drill number nodes) = record { is = refl }
 inner_word (End status) = record { is = refl }
 
 row_with : (r : Row) (tail : List ℕ) → row_text r ++ tail ≡ word_of r ++ fields_with (fields_of r) tail
@@ -29,7 +30,7 @@ row_fields r tail h =
 
 -- The row of a text that begins with a row's own text is that row.
 pub row_back : (r : Row) (tail : List ℕ) → IsRow r → row_of (row_text r ++ tail) ≡ r
-unfolding row_of scan_of box_of region_of summary_of end_of
+unfolding row_of scan_of box_of region_of summary_of drill_of end_of
 row_back (Scan name bus network from to threshold method) tail h =
     let e = row_fields (Scan name bus network from to threshold method) tail h in
     cc
@@ -41,6 +42,9 @@ row_back (Region number lo hi hertz_lo hertz_hi peaks undecided at ohms) tail h 
     cc
 row_back (Summary name boxes cleared peaks undecided regions) tail h =
     let e = row_fields (Summary name boxes cleared peaks undecided regions) tail h in
+    cc
+row_back (Drill number nodes) tail h =
+    let e = row_fields (Drill number nodes) tail h in
     cc
 row_back (End status) tail h =
     let e = row_fields (End status) tail h in
@@ -63,6 +67,10 @@ summary_is : (x : List ℕ) → IsRow (summary_of x)
 unfolding summary_of
 summary_is x = fields_are (fields_of (summary_of x)) (after_field x)
 
+drill_is : (x : List ℕ) → IsRow (drill_of x)
+unfolding drill_of
+drill_is x = fields_are (fields_of (drill_of x)) (after_field x)
+
 end_is : (x : List ℕ) → IsRow (end_of x)
 unfolding end_of
 end_is x = fields_are (fields_of (end_of x)) (after_field x)
@@ -76,11 +84,13 @@ unfolding row_of
 row_is x =
     let r4 : Row = if second_of x == 99 then scan_of x else summary_of x in
     let r3 : Row = if first_of x == 101 then end_of x else r4 in
-    let r2 : Row = if first_of x == 114 then region_of x else r3 in
+    let r2 : Row = if first_of x == 100 then drill_of x else r3 in
+    let r1 : Row = if first_of x == 114 then region_of x else r2 in
     let i4 : IsRow r4 = either_is (second_of x == 99) (scan_of x) (summary_of x) (scan_is x) (summary_is x) in
     let i3 : IsRow r3 = either_is (first_of x == 101) (end_of x) r4 (end_is x) i4 in
-    let i2 : IsRow r2 = either_is (first_of x == 114) (region_of x) r3 (region_is x) i3 in
-    either_is (first_of x == 98) (box_of x) r2 (box_is x) i2
+    let i2 : IsRow r2 = either_is (first_of x == 100) (drill_of x) r3 (drill_is x) i3 in
+    let i1 : IsRow r1 = either_is (first_of x == 114) (region_of x) r2 (region_is x) i2 in
+    either_is (first_of x == 98) (box_of x) r1 (box_is x) i1
 
 -- a row's text has at least two bytes
 pub row_some : (r : Row) → 2 ≤ length (row_text r)
@@ -88,4 +98,5 @@ row_some (Scan name bus network from to threshold method) = omega arith
 row_some (BoxLine number lo hi word at ohms) = omega arith
 row_some (Region number lo hi hertz_lo hertz_hi peaks undecided at ohms) = omega arith
 row_some (Summary name boxes cleared peaks undecided regions) = omega arith
+row_some (Drill number nodes) = omega arith
 row_some (End status) = omega arith

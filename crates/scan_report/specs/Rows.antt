@@ -4,7 +4,7 @@ use Rattle.scan_report.specs.Fields.{fields_text}
 use Rattle.scan_report.specs.declared.fields.Field.{Field}
 use Rattle.scan_report.specs.declared.fields.Field.TheVariants as field
 use Rattle.scan_report.specs.declared.rows.Row.{Row}
-use Rattle.scan_report.specs.declared.rows.Row.TheVariants.{Scan, BoxLine, Region, Summary, End}
+use Rattle.scan_report.specs.declared.rows.Row.TheVariants.{Scan, BoxLine, Region, Summary, Drill, End}
 
 -- the word of each row
 abbrev pub word_of : Row → List ℕ
@@ -12,6 +12,7 @@ word_of (Scan name bus network from to threshold method) = codes "scan"
 word_of (BoxLine number lo hi word at micro_ohms) = codes "box"
 word_of (Region number lo hi hertz_lo hertz_hi peaks undecided at micro_ohms) = codes "region"
 word_of (Summary name boxes cleared peaks undecided regions) = codes "summary"
+word_of (Drill number nodes) = codes "drill"
 word_of (End status) = codes "end"
 
 -- the fields of each row, in their order
@@ -25,6 +26,7 @@ fields_of (Region number lo hi hertz_lo hertz_hi peaks undecided at micro_ohms) 
     ∷ field.At at ∷ field.Bound micro_ohms ∷ []
 fields_of (Summary name boxes cleared peaks undecided regions) =
     field.Name name ∷ field.Number boxes ∷ field.Number cleared ∷ field.Number peaks ∷ field.Number undecided ∷ field.Number regions ∷ []
+fields_of (Drill number nodes) = field.Number number ∷ field.Number nodes ∷ []
 fields_of (End status) = field.Number status ∷ []
 
 -- the line of a row: its word, each of its fields after a comma, and a line feed

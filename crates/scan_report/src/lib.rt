@@ -12,4 +12,6 @@ mod rows;
 pub use boxes::{BoxRow, Kind};
 pub use line::{LineBuf, push_number};
 pub use reading::{Report, ReportFault, no_report_is_bad, read_report};
-pub use rows::{BoxWord, NetWord, Row, box_row, end_row, region_row, scan_row, summary_row};
+pub use rows::{
+    BoxWord, NetWord, Row, box_row, drill_row, end_row, region_row, scan_row, summary_row,
+};

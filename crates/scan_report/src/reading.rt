@@ -6,7 +6,7 @@ ghost use Rattle.scan_report.specs.Stands.{stage_of, BeginsText, BeginsWith, Beg
 
 use crate::line::LineBuf;
 use crate::loose::row_of;
-use crate::rows::{Row, box_row, end_row, region_row, scan_row, summary_row};
+use crate::rows::{Row, box_row, drill_row, end_row, region_row, scan_row, summary_row};
 use sqlite_items::Items;
 use std::alloc::Global;
 use thiserror::Error;
@@ -71,6 +71,7 @@ fn write_row(row: &Row, line: &mut LineBuf)
         Row::BoxLine { .. } => box_row(row, line),
         Row::Region { .. } => region_row(row, line),
         Row::Summary { .. } => summary_row(row, line),
+        Row::Drill { .. } => drill_row(row, line),
         Row::End { .. } => end_row(row, line),
     }
 }

@@ -70,6 +70,11 @@ pub enum Row {
         undecided: u32,
         regions: u32,
     },
+    /// The first row of a drill: its number, and how many nodes its network has.
+    Drill {
+        number: u32,
+        nodes: u32,
+    },
     /// The last row of a report.
     End {
         status: u32,
@@ -203,6 +208,21 @@ pub fn summary_row(row: &Row, line: &mut LineBuf)
                 Field::Number(*undecided),
                 Field::Number(*regions),
             ],
+        );
+    }
+}
+
+/// Sets the line to the text of a drill's first row. Condition: the row is of its kind.
+pub fn drill_row(row: &Row, line: &mut LineBuf)
+    requires { IsRowOf (codes "drill") row.now }
+    ensures text { line.new ≡ row_text row.now }
+    ensures len { length line.new ≤ 255 }
+{
+    if let Row::Drill { number, nodes } = row {
+        set_line(
+            line,
+            b"drill",
+            &[Field::Number(*number), Field::Number(*nodes)],
         );
     }
 }

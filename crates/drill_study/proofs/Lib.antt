@@ -1,0 +1,4 @@
+pub mod NameTexts
+pub mod Lawful
+pub mod Live
+pub mod Steps
