@@ -1,5 +1,5 @@
 -- The test of a pair of networks is sound.
-use Rattle.band_subdivision.specs.PairTest.{pair_value, pair_enclosure, scanned_network}
+use Rattle.band_subdivision.specs.PairTest.{pair_value, pair_enclosure}
 use Rattle.band_subdivision.specs.PairTruth.{PairTestIsSound, scanned_with}
 use Rattle.band_subdivision.proofs.Enclosures.{pair_encloses}
 use Rattle.band_subdivision.proofs.InverseSound.{inverse_is_sound}

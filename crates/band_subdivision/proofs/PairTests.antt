@@ -27,7 +27,7 @@ use Rattle.admittance_box.specs.Orders.{order_ends}
 use Rattle.admittance_box.proofs.Ranges.{order_encloses}
 use Rattle.admittance_box.proofs.ReducedMatrices.{reduced_matrix_holds}
 use Rattle.admittance_box.proofs.Steps.{bind-some}
-use Rattle.band_subdivision.specs.PairTest.{with_extra, pair_value, scanned_network}
+use Rattle.band_subdivision.specs.PairTest.{with_extra, pair_value}
 use Rattle.band_subdivision.specs.Levels.{orders}
 use Rattle.band_subdivision.specs.Truth.{ReducesTo}
 

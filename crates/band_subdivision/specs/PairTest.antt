@@ -1,11 +1,10 @@
 -- The test of boxes of a pair of networks that is driven at a node, with an extra susceptance there.
-use Rattle.std.specs.Prelude.{ℕ, ◌-◌, Bool, List, length, pos, Option, Some, None, int_lt, if◌then◌else◌}
+use Rattle.std.specs.Prelude.{ℕ, ◌-◌, Bool, List, length, Option, Some, None}
 use Rattle.std.specs.Result.{result_ok}
 use Rattle.exact_algebra.specs.Ratio.{Ratio}
 use Rattle.complex_interval.specs.Ends.{Ends, range_ends, add_ends, mul_ends}
 use Rattle.complex_interval.specs.Rectangles.{Rectangle}
 use Rattle.network_theory.specs.Network.{Network}
-use Rattle.network_theory.specs.Extra.{with_shunt}
 use Rattle.plain_elimination.specs.Matrix.{entry, set_entry}
 use Rattle.plain_elimination.specs.Rectangles.{reduce_rectangles}
 use Rattle.certified_inverse.specs.Certificate.{enclosure}
@@ -66,7 +65,3 @@ pub record Asked : Type 0 where
 abbrev pub pair_test : ℕ → Asked → Network → Network → List ℕ → Ratio → BoxTest
 pair_test s asked low high ordering e =
     either (elimination_test s asked.levels (pair_value s low high ordering e)) (where_near asked.both asked.locate (inverse_test s asked.levels (pair_enclosure s low high ordering e)))
-
--- a network that is scanned with an extra susceptance: it has one more Shunt of it from the driven node to ground, where it is above 0
-abbrev pub scanned_network : Network → ℕ → Ratio → Network
-scanned_network network driven e = if int_lt (pos 0) e.num then with_shunt network driven e else network
