@@ -1,4 +1,5 @@
-// Worked cases of the command line: words and files, and all that the program answers them.
+// Worked cases of the command line: words and files, and all that the program answers them; and of the shelves and sinks, in memory and over
+// the files and streams of the system.
 #![tactic(auto)]
 
 #[cfg(test)]
@@ -12,11 +13,15 @@ mod examples;
 #[cfg(test)]
 mod faults;
 #[cfg(test)]
+mod in_memory;
+#[cfg(test)]
 mod networks;
 #[cfg(test)]
 mod puts;
 #[cfg(test)]
 mod readings;
+#[cfg(test)]
+mod real;
 #[cfg(test)]
 mod recipes;
 #[cfg(test)]
@@ -29,3 +34,5 @@ mod refusing;
 mod reports;
 #[cfg(test)]
 mod studies;
+#[cfg(test)]
+mod torn;
