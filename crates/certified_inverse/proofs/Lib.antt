@@ -5,5 +5,6 @@ mod Worked
 pub mod Products
 pub mod Greatest
 pub mod Placed
+pub mod Zeros
 pub mod Shape
 pub mod Sizes

@@ -1,5 +1,5 @@
 -- The parts of an enclosed value are ends, so of a size of at most 2^62.
-use Rattle.std.proofs.Common.{◌≡◌, ℕ, zero, suc, ◌*◌, ◌-◌, ◌≤◌, ◌^◌, ℤ, ◌-ℤ◌, Bool, true, false, unsigned_abs, nat_le, List, [], ◌∷◌, length, slice_get, Option, Some, None, Result, Ok, Err, refl, subst, arith}
+use Rattle.std.proofs.Common.{◌≡◌, ℕ, zero, suc, ◌*◌, ◌-◌, ◌≤◌, ◌^◌, ℤ, ◌-ℤ◌, Bool, true, false, unsigned_abs, nat_le, List, [], ◌∷◌, slice_get, Option, Some, None, Result, Ok, Err, refl, subst, arith}
 use Rattle.std.specs.Prelude.{if◌then◌else◌, ◌&&◌, ◌==◌, option_map}
 use Rattle.std.specs.List.{AllByRecursion}
 use Rattle.std.proofs.lemmas.Bool.Decides.{nat_tests}
@@ -11,7 +11,7 @@ use Rattle.middle_inverse.specs.declared.fault.InverseFault.{InverseFault}
 use Rattle.middle_inverse.specs.declared.fault.InverseFault.TheVariants.{NoInverse as NoPivot, OutOfRange as NoValue}
 use Rattle.certified_inverse.specs.declared.outcome.InverseOutcome.{InverseOutcome}
 use Rattle.certified_inverse.specs.declared.outcome.InverseOutcome.TheVariants.{NotContracting}
-use Rattle.certified_inverse.specs.Certificate.{valued, bounded, in_size, theta_of, sigma_of, column_of, ceil_over, enclosed_by, certified, by_inverse, enclosure, each}
+use Rattle.certified_inverse.specs.Certificate.{valued, in_size, theta_of, sigma_of, column_of, ceil_over, certified, by_inverse, enclosure}
 use Rattle.certified_inverse.specs.Sizes.{IsInRange}
 use Rattle.certified_inverse.proofs.Rows.{and_then-some}
 use Rattle.certified_inverse.proofs.Shape.{inverse_all}

@@ -1,3 +1,4 @@
 pub mod Certificate
 pub mod Worked
 pub mod Sizes
+pub mod Ways

@@ -1,5 +1,5 @@
 -- How great the numbers of an outcome are.
-use Rattle.std.specs.Prelude.{ℕ, ◌^◌, ◌≤◌, unsigned_abs}
+use Rattle.std.specs.Prelude.{◌^◌, ◌≤◌, unsigned_abs}
 use Rattle.certified_inverse.specs.declared.outcome.InverseOutcome.{InverseOutcome}
 use Rattle.certified_inverse.specs.declared.outcome.InverseOutcome.TheVariants.{Enclosed}
 

@@ -1,5 +1,6 @@
 // A bench on which an entry of a solution is enclosed.
-ghost use Rattle.std.specs.Prelude.{◌≡◌, ◌<◌, ◌≤◌, ◌-◌, ◌*◌, ◌^◌, IfOk, length};
+ghost use Rattle.std.specs.Prelude.{◌≡◌, ◌+◌, ◌<◌, ◌≤◌, ◌-◌, ◌*◌, ◌^◌, IfOk, length};
+ghost use Rattle.std.specs.List.{All};
 ghost use Rattle.complex_interval.specs.Rect.{rectangle_of};
 ghost use Rattle.plain_elimination.specs.Matrix.{Square};
 ghost use Rattle.certified_inverse.specs.Certificate.{valued, in_size, ceil_over, certified, enclosure, HoldsEnclosed};
@@ -10,6 +11,7 @@ use crate::outcome::InverseOutcome;
 use crate::sigma::{copy_column, sigma_of};
 use crate::size::{error_over, unit_of};
 use crate::theta::theta_of;
+use crate::ways::write_ways;
 use complex_interval::{Enclosure, Rect};
 use middle_inverse::{InverseFault, MiddleInverse};
 use plain_elimination::{Matrix, nought_cells};
@@ -24,17 +26,34 @@ pub struct InverseBench<E: Enclosure> {
     x: Vec<Rect<E>>,
     left: Vec<Rect<E>>,
     sums: Vec<Rect<E>>,
+    ways: Vec<Vec<u32>>,
 }
 
 impl<E: Enclosure> Model for InverseBench<E> {
-    ghost use Rattle.std.specs.Prelude.{◌≡◌, ◌≤◌, ℕ, length};
+    ghost use Rattle.std.specs.Prelude.{◌≡◌, ◌+◌, ◌≤◌, ℕ, length};
+    ghost use Rattle.std.specs.List.{All};
     ghost use Rattle.plain_elimination.specs.declared.limits.TheConstants.{MAX_SIZE};
 
     ghost Value = { ℕ };
 
     ghost view = { λ b. b.size };
 
-    ghost invariant = { λ b. record { few : b.size ≤ MAX_SIZE; inverse_in : b.inverse.size ≡ b.size; x_in : length b.x.items ≡ b.size; left_in : length b.left.items ≡ b.size; sums_in : length b.sums.items ≡ b.size } };
+    ghost invariant = { λ b. record { few : b.size ≤ MAX_SIZE; inverse_in : b.inverse.size ≡ b.size; x_in : length b.x.items ≡ b.size; left_in : length b.left.items ≡ b.size; sums_in : length b.sums.items ≡ b.size; ways_in : length b.ways.items ≡ b.size; ways_wide : All (λ r. length r.items ≡ b.size + 1) b.ways.items } };
+}
+
+// A way for each of so many rows.
+fn way_rows(alloc: Global, size: usize) -> Result<Vec<Vec<u32>>, AllocError>
+    requires { size ≤ MAX_SIZE }
+    ensures count { IfOk result (λ rows. length rows.items ≡ size) }
+    ensures wide { IfOk result (λ rows. All (λ r. length r.items ≡ size + 1) rows.items) }
+{
+    let mut rows = Vec::new(alloc);
+    for _row in 0..size {
+        let mut way = Vec::new(alloc);
+        way.resize(size + 1, 0)?;
+        rows.push(way)?;
+    }
+    Ok(rows)
 }
 
 // The value at the column and its error.
@@ -61,6 +80,7 @@ fn certify<E: Enclosure>(
     x: &mut [Rect<E>],
     left: &mut [Rect<E>],
     sums: &mut [Rect<E>],
+    ways: &mut [Vec<u32>],
 ) -> InverseOutcome
     requires few { matrix.now.size ≤ MAX_SIZE }
     requires same { inverse.now.size ≡ matrix.now.size }
@@ -69,9 +89,13 @@ fn certify<E: Enclosure>(
     requires x_in { length x.old ≡ matrix.now.size }
     requires left_in { length left.old ≡ matrix.now.size }
     requires sums_in { length sums.old ≡ matrix.now.size }
-    ensures { result ≡ certified E.SCALE column inverse.now.rows matrix.now.rows }
+    requires ways_in { length ways.old ≡ matrix.now.size }
+    requires ways_wide { All (λ r. length r.items ≡ matrix.now.size + 1) ways.old }
+    ensures value { result ≡ certified E.SCALE column inverse.now.rows matrix.now.rows }
+    ensures ways_wide { All (λ r. length r.items ≡ matrix.now.size + 1) ways.new }
 {
-    let theta = match theta_of(inverse, matrix, left, sums) {
+    write_ways(ways, matrix);
+    let theta = match theta_of(inverse, matrix, ways, left, sums) {
         Some(theta) => theta,
         None => return InverseOutcome::OutOfRange,
     };
@@ -96,12 +120,14 @@ impl<E: Enclosure> InverseBench<E> {
         let x = nought_cells(alloc, count)?;
         let left = nought_cells(alloc, count)?;
         let sums = nought_cells(alloc, count)?;
+        let ways = way_rows(alloc, count)?;
         Ok(InverseBench {
             size,
             inverse,
             x,
             left,
             sums,
+            ways,
         })
     }
 
@@ -127,6 +153,7 @@ impl<E: Enclosure> InverseBench<E> {
                 self.x.as_mut_slice(),
                 self.left.as_mut_slice(),
                 self.sums.as_mut_slice(),
+                self.ways.as_mut_slice(),
             ),
         }
     }

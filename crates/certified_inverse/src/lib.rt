@@ -8,6 +8,7 @@ mod sigma;
 mod size;
 mod sums;
 mod theta;
+mod ways;
 
 pub use bench::InverseBench;
 pub use laws::{certificate_holds, worked_certificates};

@@ -41,6 +41,9 @@ two_done f a d b front xs ys e = rw e (after_push front d (each_two f xs ys))
 abbrev pub EachTwoTo : {R S X Y : Type 0} → (R → X) → (S → Y) → (X → Y → Option X) → List R → List R → List S → ℕ → Type 0
 EachTwoTo h g f old new others i = each_two f (map h old) (map g others) ≡ after (take i (map h new)) (each_two f (drop i (map h new)) (drop i (map g others)))
 
+pub each_two_begins : {R S X Y : Type 0} (h : R → X) (g : S → Y) (f : X → Y → Option X) (old : List R) (others : List S) → EachTwoTo h g f old old others 0
+each_two_begins h g f old others = sym (after_none _)
+
 pub each_two_more : {R S X Y : Type 0} (h : R → X) (g : S → Y) (f : X → Y → Option X) (old new : List R) (others : List S) (i : ℕ) (a d : R) (b : S) → i < length new → i < length others → a ≡ get_or new i a → b ≡ get_or others i b → Some (h d) ≡ f (h a) (g b)
     → EachTwoTo h g f old new others i → EachTwoTo h g f old (set new i d) others (i + 1)
 each_two_more h g f old new others i a d b l lo ea eb e k =

@@ -1,2 +1,4 @@
 pub mod Lists
 pub mod Inverse
+pub mod Points
+pub mod Leads

@@ -4,7 +4,9 @@
 mod bench;
 mod columns;
 mod fault;
+mod next;
 mod point;
+mod raw;
 mod rows;
 mod writing;
 

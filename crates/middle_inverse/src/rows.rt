@@ -1,67 +1,102 @@
 // Whole rows of points.
-ghost use Rattle.std.specs.Prelude.{◌≡◌, ◌<◌, ℕ, length, map, slice_get};
+ghost use Rattle.std.specs.Prelude.{◌≡◌, ◌<◌, ◌+◌, ℕ, length, map, slice_get};
 ghost use Rattle.std.specs.List.{All};
 ghost use Rattle.std.specs.Option.{option_map};
-ghost use Rattle.complex_interval.specs.Rect.{rectangle_of};
+ghost use Rattle.plain_elimination.specs.Matrix.{nought_rectangle};
+ghost use Rattle.middle_inverse.specs.Leads.{LeadsOver};
 ghost use Rattle.middle_inverse.specs.Lists.{each, each_two, first_greatest};
-ghost use Rattle.middle_inverse.specs.Inverse.{divided_row, cleared_row, point_less, size_at};
+ghost use Rattle.middle_inverse.specs.Inverse.{divided_row, cleared_row, point_less, point_quotient, size_at};
+ghost use Rattle.middle_inverse.specs.Points.{rectangle_at};
 
-use crate::point::{less_times, quotient, size_of};
-use complex_interval::{Enclosure, Rect};
+use crate::point::{is_nought, less_times, nought, quotient, size_at_point};
+use crate::raw::Point;
+use complex_interval::Enclosure;
+
+// a/b, where 0/b is known.
+fn quotient_by<E: Enclosure>(a: Point, b: Point, of_nought: Option<Point>) -> Option<Point>
+    requires { option_map rectangle_at of_nought ≡ point_quotient E.SCALE nought_rectangle (rectangle_at b) }
+    ensures { option_map rectangle_at result ≡ point_quotient E.SCALE (rectangle_at a) (rectangle_at b) }
+{
+    if is_nought(a) {
+        of_nought
+    } else {
+        quotient::<E>(a, b)
+    }
+}
 
 /// Divides each entry by the pivot.
-pub fn divide_row<E: Enclosure>(row: &mut [Rect<E>], pivot: Rect<E>) -> Option<()>
-    ensures { option_map (λ _. map (rectangle_of E.ends) row.new) result ≡ divided_row E.SCALE (rectangle_of E.ends pivot) (map (rectangle_of E.ends) row.old) }
+pub fn divide_row<E: Enclosure>(row: &mut [Point], pivot: Point) -> Option<()>
+    ensures { option_map (λ _. map rectangle_at row.new) result ≡ divided_row E.SCALE (rectangle_at pivot) (map rectangle_at row.old) }
 {
+    let of_nought = quotient::<E>(nought(), pivot);
     for i in 0..row.len() {
-        row[i] = quotient(row[i], pivot)?;
+        row[i] = quotient_by::<E>(row[i], pivot, of_nought)?;
     }
     Some(())
 }
 
-/// From each entry f times that of the pivot's row is subtracted.
-pub fn subtract_row<E: Enclosure>(row: &mut [Rect<E>], f: Rect<E>, first: &[Rect<E>]) -> Option<()>
-    requires { length row.old ≡ length first.now }
-    ensures { option_map (λ _. map (rectangle_of E.ends) row.new) result
-        ≡ each_two (point_less E.SCALE (rectangle_of E.ends f)) (map (rectangle_of E.ends) row.old) (map (rectangle_of E.ends) first.now) }
+/// From each entry f times that of the pivot's row is subtracted. `next` leads over zeros of the pivot's row, where nothing changes.
+pub fn subtract_row<E: Enclosure>(
+    row: &mut [Point],
+    f: Point,
+    first: &[Point],
+    next: &[u32],
+) -> Option<()>
+    requires same { length row.old ≡ length first.now }
+    requires leads { LeadsOver (map rectangle_at first.now) next.now }
+    ensures { option_map (λ _. map rectangle_at row.new) result
+        ≡ each_two (point_less E.SCALE (rectangle_at f)) (map rectangle_at row.old) (map rectangle_at first.now) }
 {
-    for i in 0..row.len() {
-        row[i] = less_times(f, row[i], first[i])?;
+    let mut i = next[0] as usize;
+    while i < row.len() {
+        row[i] = less_times::<E>(f, row[i], first[i])?;
+        i = next[i + 1] as usize;
     }
     Some(())
 }
 
 /// A row other than the pivot's, whose divided row is `first`: its entry in this column times that row is subtracted.
-pub fn clear_row<E: Enclosure>(row: &mut [Rect<E>], column: usize, first: &[Rect<E>]) -> Option<()>
-    ensures { option_map (λ _. map (rectangle_of E.ends) row.new) result
-        ≡ cleared_row E.SCALE column (map (rectangle_of E.ends) first.now) (map (rectangle_of E.ends) row.old) }
+pub fn clear_row<E: Enclosure>(
+    row: &mut [Point],
+    column: usize,
+    first: &[Point],
+    next: &[u32],
+) -> Option<()>
+    requires { LeadsOver (map rectangle_at first.now) next.now }
+    ensures { option_map (λ _. map rectangle_at row.new) result
+        ≡ cleared_row E.SCALE column (map rectangle_at first.now) (map rectangle_at row.old) }
 {
     let f = entry_at(row, column)?;
     if row.len() != first.len() {
         return None;
     }
-    subtract_row(row, f, first)
+    if is_nought(f) {
+        return Some(());
+    }
+    subtract_row::<E>(row, f, first, next)
 }
 
 /// So with each of these rows.
 pub fn clear_rows<E: Enclosure>(
-    rows: &mut [Vec<Rect<E>>],
+    rows: &mut [Vec<Point>],
     column: usize,
-    first: &[Rect<E>],
+    first: &[Point],
+    next: &[u32],
 ) -> Option<()>
-    ensures value { option_map (λ _. map (λ r. map (rectangle_of E.ends) r.items) rows.new) result
-        ≡ each (cleared_row E.SCALE column (map (rectangle_of E.ends) first.now)) (map (λ r. map (rectangle_of E.ends) r.items) rows.old) }
+    requires { LeadsOver (map rectangle_at first.now) next.now }
+    ensures value { option_map (λ _. map (λ r. map rectangle_at r.items) rows.new) result
+        ≡ each (cleared_row E.SCALE column (map rectangle_at first.now)) (map (λ r. map rectangle_at r.items) rows.old) }
     ensures wide { (w : ℕ) → All (λ r. length r.items ≡ w) rows.old → All (λ r. length r.items ≡ w) rows.new }
 {
     for i in 0..rows.len() {
-        clear_row(rows[i].as_mut_slice(), column, first)?;
+        clear_row::<E>(rows[i].as_mut_slice(), column, first, next)?;
     }
     Some(())
 }
 
 /// The entry in this column, if there is one.
-pub fn entry_at<E: Enclosure>(row: &[Rect<E>], column: usize) -> Option<Rect<E>>
-    ensures { option_map (rectangle_of E.ends) result ≡ slice_get (map (rectangle_of E.ends) row.now) column }
+pub fn entry_at(row: &[Point], column: usize) -> Option<Point>
+    ensures { option_map rectangle_at result ≡ slice_get (map rectangle_at row.now) column }
 {
     if column < row.len() {
         Some(row[column])
@@ -71,19 +106,19 @@ pub fn entry_at<E: Enclosure>(row: &[Rect<E>], column: usize) -> Option<Rect<E>>
 }
 
 /// The size of the entry in this column.
-pub fn size_at<E: Enclosure>(row: &[Rect<E>], column: usize) -> u64
-    ensures { result ≡ size_at column (map (rectangle_of E.ends) row.now) }
+pub fn size_at(row: &[Point], column: usize) -> u64
+    ensures { result ≡ size_at column (map rectangle_at row.now) }
 {
     match entry_at(row, column) {
-        Some(x) => size_of(x),
+        Some(x) => size_at_point(x),
         None => 0,
     }
 }
 
 /// The row whose entry in this column is the greatest, the first on ties.
-pub fn pivot_place<E: Enclosure>(rows: &[Vec<Rect<E>>], column: usize) -> usize
+pub fn pivot_place(rows: &[Vec<Point>], column: usize) -> usize
     requires { 0 < length rows.now }
-    ensures place { result ≡ first_greatest (map (size_at column) (map (λ r. map (rectangle_of E.ends) r.items) rows.now)) }
+    ensures place { result ≡ first_greatest (map (size_at column) (map (λ r. map rectangle_at r.items) rows.now)) }
     ensures place_in { result < length rows.now }
 {
     let mut i = rows.len();

@@ -1,4 +1,4 @@
-use Rattle.std.proofs.Common.{◌+◌, ◌++◌, [], ◌∷◌, map, replicate, ap, ap₂, ◌∙◌}
+use Rattle.std.proofs.Common.{◌++◌, [], ◌∷◌, map, replicate, ap, ap₂, ◌∙◌}
 use Rattle.std.proofs.lemmas.List.{map-append, replicate_more}
 use Rattle.complex_interval.specs.Rect.{rectangle_of}
 use Rattle.plain_elimination.specs.Matrix.{nought_rectangle}
@@ -10,4 +10,4 @@ loop-row-preserved g c =
     ap (map (λ r. map rectangle r.items)) c.in_ok-push.ensures.items
     ∙ map-append (λ r. map rectangle r.items) c.loop-row.rows.items (c.in_ok-cells.cells ∷ [])
     ∙ ap₂ (λ front row. front ++ row ∷ []) c.loop-row.invariant c.in_ok-cells.ensures
-    ∙ replicate_more c.loop-row._row (replicate (c.args.size + c.args.size) nought_rectangle)
+    ∙ replicate_more c.loop-row._row (replicate (c.args.size) nought_rectangle)

@@ -1,7 +1,8 @@
-use Rattle.std.proofs.Common.{◌≡◌, ◌++◌, ◌∷◌, Ok, set, get_or, length, sym, ap, ◌∙◌, subst, map, arith, rules}
+use Rattle.std.proofs.Common.{◌≡◌, ◌-◌, ◌++◌, ◌∷◌, Ok, set, get_or, length, sym, ap, ◌∙◌, subst, map, arith, rules}
 use Rattle.std.specs.Vec.{with_items}
 use Rattle.std.proofs.lemmas.List.{with_items_is, places}
-use Rattle.complex_interval.specs.Rect.{rectangle_of}
+use Rattle.std.proofs.lemmas.List.Elements.{All-get_or}
+use Rattle.middle_inverse.specs.Points.{rectangle_at}
 use Rattle.middle_inverse.specs.Inverse.{bind}
 use Rattle.middle_inverse.proofs.Steps.{first_apart, first_written}
 use Rattle.middle_inverse.proofs.Wide.{wide_set, wide_front, wide_back, wide_both}
@@ -9,7 +10,7 @@ use Rattle.middle_inverse.proofs.columns.step_first.Goals as goal
 
 pub returns : goal.returns
 returns g c =
-    let rectangle = rectangle_of g.E.Enclosure.ends in
+    let rectangle = rectangle_at in
     let parts = c.split_at_mut-first.ensures in
     let firsts = c.split_at_mut-first.result.0.now in
     let below = c.split_at_mut-first.result.1.now in
@@ -26,3 +27,19 @@ returns g c =
           (wide_set (λ r. length r.items) w firsts 0 a (with_items a c.step_by.new.first) (omega arith) is kept (wide_front (λ r. length r.items) w c.args.rest.now firsts 1 parts.front all))
           (c.step_by.ensures.wide_below w (wide_back (λ r. length r.items) w c.args.rest.now below 1 parts.back all));
     }
+
+pub step_by-requires-clause-next_in : goal.step_by-requires-clause-next_in
+step_by-requires-clause-next_in g c =
+    let parts = c.split_at_mut-first.ensures in
+    let firsts = c.split_at_mut-first.result.0.now in
+    let w = length c.args.next.now - 1 in
+    let wide = All-get_or (λ r. length r.items ≡ w) firsts 0 c.index-first-0.result (omega arith) (wide_front (λ r. length r.items) w c.args.rest.now firsts 1 parts.front c.requires.wide) in
+    omega (arith, wide, ap length c.as_mut_slice.ensures.value)
+
+pub step_by-requires-clause-few : goal.step_by-requires-clause-few
+step_by-requires-clause-few g c =
+    let parts = c.split_at_mut-first.ensures in
+    let firsts = c.split_at_mut-first.result.0.now in
+    let w = length c.args.next.now - 1 in
+    let wide = All-get_or (λ r. length r.items ≡ w) firsts 0 c.index-first-0.result (omega arith) (wide_front (λ r. length r.items) w c.args.rest.now firsts 1 parts.front c.requires.wide) in
+    omega (arith, wide, ap length c.as_mut_slice.ensures.value)

@@ -2,9 +2,9 @@ use Rattle.std.proofs.Common.{rules}
 use Rattle.middle_inverse.specs.Inverse.{point_quotient}
 use Rattle.middle_inverse.proofs.point.quotient.Goals as goal
 
-pub returns-in_err-div : goal.returns-in_err-div
+pub returns-in_err-whole : goal.returns-in_err-whole
 unfolding point_quotient
-returns-in_err-div g c = search rules
+returns-in_err-whole g c = search rules
 
 pub returns : goal.returns
 unfolding point_quotient

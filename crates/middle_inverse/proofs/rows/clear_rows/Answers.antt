@@ -1,7 +1,7 @@
 use Rattle.std.proofs.Common.{◌≡◌, Some, length, map, get_or, sym, ap, ◌∙◌, subst, arith, rules}
 use Rattle.std.specs.Vec.{with_items}
 use Rattle.std.proofs.lemmas.List.{with_items_is, places}
-use Rattle.complex_interval.specs.Rect.{rectangle_of}
+use Rattle.middle_inverse.specs.Points.{rectangle_at}
 use Rattle.middle_inverse.specs.Inverse.{cleared_row}
 use Rattle.middle_inverse.proofs.Each.{each_more, each_none}
 use Rattle.middle_inverse.proofs.Wide.{wide_set}
@@ -9,7 +9,7 @@ use Rattle.middle_inverse.proofs.rows.clear_rows.Goals as goal
 
 pub returns-in_err-clear_row : goal.returns-in_err-clear_row
 returns-in_err-clear_row g c =
-    let rectangle = rectangle_of g.E.Enclosure.ends in
+    let rectangle = rectangle_at in
     let a = get_or c.loop-i.rows c.loop-i.i c.index-rows-i.result in
     let is : a ≡ get_or c.loop-i.rows c.loop-i.i a = subst (λ v. v ≡ get_or c.loop-i.rows c.loop-i.i v) c.index-rows-i.is c.index-rows-i.is in
     let written = with_items_is a c.clear_row.new.row (search (rules, places)) in
@@ -22,7 +22,7 @@ returns-in_err-clear_row g c =
 
 pub loop-i-preserved : goal.loop-i-preserved
 loop-i-preserved g c =
-    let rectangle = rectangle_of g.E.Enclosure.ends in
+    let rectangle = rectangle_at in
     let a = get_or c.loop-i.rows c.loop-i.i c.index-rows-i.result in
     let is : a ≡ get_or c.loop-i.rows c.loop-i.i a = subst (λ v. v ≡ get_or c.loop-i.rows c.loop-i.i v) c.index-rows-i.is c.index-rows-i.is in
     let written = with_items_is a c.clear_row.new.row (search (rules, places)) in

@@ -1,13 +1,13 @@
 use Rattle.std.proofs.Common.{◌≡◌, ◌<◌, ◌+◌, ◌-◌, ◌∷◌, drop, map, length, sym, ap, ◌∙◌, subst, arith}
 use Rattle.std.proofs.lemmas.List.{length-map}
-use Rattle.complex_interval.specs.Rect.{rectangle_of}
+use Rattle.middle_inverse.specs.Points.{rectangle_at}
 use Rattle.middle_inverse.specs.Inverse.{size_at}
 use Rattle.middle_inverse.proofs.Each.{Found, read_twice, found_greater, found_less, place_below}
 use Rattle.middle_inverse.proofs.rows.pivot_place.Goals as goal
 
 pub loop-i-preserved-then-greatest-size : goal.loop-i-preserved-then-greatest-size
-loop-i-preserved-then-greatest-size g c =
-    let rectangle = rectangle_of g.E.Enclosure.ends in
+loop-i-preserved-then-greatest-size c =
+    let rectangle = rectangle_at in
     let i = c.loop-i.i - 1 in
     let inside = c.loop-i.invariant.in_range in
     let sizes = map (size_at c.args.column) (map (λ r. map rectangle r.items) c.args.rows.now) in
@@ -18,8 +18,8 @@ loop-i-preserved-then-greatest-size g c =
     record { in_range = omega arith; found = found_greater sizes i c.loop-i.place c.loop-i.greatest c.size_at-size.result (here ∙ ap (λ z. z ∷ drop (i + 1) sizes) (sym size)) c.if-greatest-size.true found }
 
 pub loop-i-preserved : goal.loop-i-preserved
-loop-i-preserved g c =
-    let rectangle = rectangle_of g.E.Enclosure.ends in
+loop-i-preserved c =
+    let rectangle = rectangle_at in
     let i = c.loop-i.i - 1 in
     let inside = c.loop-i.invariant.in_range in
     let sizes = map (size_at c.args.column) (map (λ r. map rectangle r.items) c.args.rows.now) in
@@ -30,8 +30,8 @@ loop-i-preserved g c =
     record { in_range = omega arith; found = found_less sizes i c.loop-i.place c.loop-i.greatest c.size_at-size.result (here ∙ ap (λ z. z ∷ drop (i + 1) sizes) (sym size)) c.if-greatest-size.false found }
 
 pub returns-clause-place_in : goal.returns-clause-place_in
-returns-clause-place_in g c =
-    let rectangle = rectangle_of g.E.Enclosure.ends in
+returns-clause-place_in c =
+    let rectangle = rectangle_at in
     let rows = c.args.rows.now in
     let sizes = map (size_at c.args.column) (map (λ r. map rectangle r.items) rows) in
     let all : length sizes ≡ length rows = length-map (map (λ r. map rectangle r.items) rows) (size_at c.args.column) ∙ length-map rows (λ r. map rectangle r.items) in

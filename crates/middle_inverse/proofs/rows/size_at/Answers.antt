@@ -4,8 +4,8 @@ use Rattle.middle_inverse.proofs.rows.size_at.Goals as goal
 
 pub returns-in-Some : goal.returns-in-Some
 unfolding size_at
-returns-in-Some g c = c.size_of.ensures ∙ ap size_or c.in-Some.ensures
+returns-in-Some c = c.size_at_point.ensures ∙ ap size_or c.in-Some.ensures
 
 pub returns-in-None : goal.returns-in-None
 unfolding size_at
-returns-in-None g c = ap size_or c.in-None.ensures
+returns-in-None c = ap size_or c.in-None.ensures

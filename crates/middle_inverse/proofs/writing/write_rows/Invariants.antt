@@ -1,12 +1,12 @@
 use Rattle.std.proofs.Common.{◌≡◌, ◌+◌, length, map}
 use Rattle.std.specs.List.{All}
-use Rattle.complex_interval.specs.Rect.{rectangle_of}
+use Rattle.middle_inverse.specs.Points.{rectangle_at}
 use Rattle.middle_inverse.specs.Inverse.{with_units}
 use Rattle.middle_inverse.proofs.Written.{WrittenTo}
 use Rattle.middle_inverse.proofs.writing.write_rows.Given as goal
 
 abbrev pub invariant-loop-i : goal.invariant-loop-i
 invariant-loop-i g l = record {
-  value : WrittenTo (λ r. map (rectangle_of g.E.Enclosure.ends) r.items) (with_units g.E.Enclosure.SCALE (length l.matrix.rows) 0 l.matrix.rows) l.rows l.i;
+  value : WrittenTo (λ r. map rectangle_at r.items) (with_units g.E.Enclosure.SCALE (length l.matrix.rows) 0 l.matrix.rows) l.rows l.i;
   wide : All (λ r. length r.items ≡ l.matrix.size + l.matrix.size) l.rows;
 }

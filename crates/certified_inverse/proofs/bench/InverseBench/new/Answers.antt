@@ -13,4 +13,6 @@ invariant_of-result g c =
       x_in = noughts_count rectangle c.in_ok-x.x.items c.args.size c.in_ok-x.ensures;
       left_in = noughts_count rectangle c.in_ok-left.left.items c.args.size c.in_ok-left.ensures;
       sums_in = noughts_count rectangle c.in_ok-sums.sums.items c.args.size c.in_ok-sums.ensures;
+      ways_in = c.in_ok-ways.ensures.count;
+      ways_wide = c.in_ok-ways.ensures.wide;
     }

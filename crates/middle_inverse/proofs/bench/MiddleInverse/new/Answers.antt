@@ -1,9 +1,8 @@
-use Rattle.std.proofs.Common.{◌+◌, length, map, replicate, sym, ap, ◌∙◌}
+use Rattle.std.proofs.Common.{length, map, replicate, sym, ap, ◌∙◌}
 use Rattle.std.proofs.lemmas.List.{length-map, length-replicate}
 use Rattle.complex_interval.specs.Rect.{rectangle_of}
 use Rattle.plain_elimination.specs.Matrix.{Square, nought_rectangle}
 use Rattle.middle_inverse.proofs.Wide.{wide_noughts}
-use Rattle.middle_inverse.proofs.Behind.{noughts_behind}
 use Rattle.middle_inverse.proofs.bench.MiddleInverse.new.Goals as goal
 
 pub invariant_of-result : goal.invariant_of-result
@@ -13,12 +12,12 @@ invariant_of-result g c =
     let items = c.in_ok-rows.rows.items in
     record {
       few = c.requires;
-      count = sym (length-map items (λ r. map rectangle r.items)) ∙ ap length c.in_ok-rows.ensures ∙ length-replicate size (replicate (size + size) nought_rectangle);
-      wide = wide_noughts (λ r. length r.items) (λ r. map rectangle r.items) (size + size) size nought_rectangle items (λ r. length-map r.items rectangle) c.in_ok-rows.ensures;
+      points_in = c.in_ok-points.ensures.count;
+      points_wide = c.in_ok-points.ensures.wide;
+      next_in = c.in_ok-next.ensures;
+      rows_in = sym (length-map items (λ r. map rectangle r.items)) ∙ ap length c.in_ok-rows.ensures ∙ length-replicate size (replicate size nought_rectangle);
+      rows_wide = wide_noughts (λ r. length r.items) (λ r. map rectangle r.items) size size nought_rectangle items (λ r. length-map r.items rectangle) c.in_ok-rows.ensures;
     }
 
 pub returns : goal.returns
-returns g c =
-    let rectangle = rectangle_of g.E.Enclosure.ends in
-    let size = c.args.size in
-    ap (λ rows. let m : Square = record { size = size; rows = rows } in m) (noughts_behind size nought_rectangle (map (λ r. map rectangle r.items) c.in_ok-rows.rows.items) c.in_ok-rows.ensures)
+returns g c = ap (λ rows. let m : Square = record { size = c.args.size; rows = rows } in m) c.in_ok-rows.ensures

@@ -1,14 +1,14 @@
 use Rattle.std.proofs.Common.{◌≡◌, ◌+◌, Ok, length, drop, map, sym, ap, ◌∙◌, arith}
 use Rattle.std.proofs.lemmas.List.{length-map}
-use Rattle.complex_interval.specs.Rect.{rectangle_of}
+use Rattle.middle_inverse.specs.Points.{rectangle_at}
 use Rattle.middle_inverse.specs.Inverse.{bind, columns_from, with_units}
 use Rattle.middle_inverse.proofs.Behind.{behind}
 use Rattle.middle_inverse.proofs.Written.{length-with_units}
-use Rattle.middle_inverse.proofs.bench.invert_rows.Goals as goal
+use Rattle.middle_inverse.proofs.bench.invert_points.Goals as goal
 
 pub returns : goal.returns
 returns g c =
-    let rectangle = rectangle_of g.E.Enclosure.ends in
+    let rectangle = rectangle_at in
     let s = g.E.Enclosure.SCALE in
     let ys = c.args.matrix.now.rows in
     let n = length ys in
