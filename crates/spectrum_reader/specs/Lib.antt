@@ -1,0 +1,11 @@
+pub mod Records
+pub mod Rows
+pub mod Reads
+pub mod Fields
+pub mod SpectrumRows
+pub mod SpectrumOf
+pub mod LevelRows
+pub mod LevelsOf
+pub mod Lawful
+pub mod Faults
+pub mod Seen
