@@ -12,5 +12,5 @@ mod writing;
 
 pub use bench::MiddleInverse;
 pub use fault::InverseFault;
-pub use point::{middle_point, nought_point, size_of};
+pub use point::{middle_rectangle, nought_point, size_of};
 pub use writing::write_unit;

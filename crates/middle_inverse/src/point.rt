@@ -109,6 +109,13 @@ pub fn middle_point<E: Enclosure>(x: Rect<E>) -> Point
     }
 }
 
+/// The same point, as a rectangle.
+pub fn middle_rectangle<E: Enclosure>(x: Rect<E>) -> Rect<E>
+    ensures { rectangle_of E.ends result ≡ middle_point (rectangle_of E.ends x) }
+{
+    rect_at(middle_point(x))
+}
+
 /// The sum of the sizes of both parts.
 pub fn size_of<E: Enclosure>(x: Rect<E>) -> u64
     ensures { result ≡ size_of (rectangle_of E.ends x) }
