@@ -76,9 +76,13 @@ def tuned(rng, name, bus):
     return table("filter", name=name, bus=bus, kind=f'"{kind}"', q=number(rng, 0.1, 9), order=number(rng, 2, 13), quality=number(rng, 1, 90), **shunt_kind(rng))
 
 
+def ohms(rng):
+    return f'"{10 ** rng.uniform(-0.3, 3.3):.3f}"'
+
+
 def threshold(rng, low, high):
     points = sorted({f"{at:.3f}" for at in [low - rng.uniform(0, 0.3), high + rng.uniform(0, 3)] + [rng.uniform(low, high) for _ in range(rng.randrange(0, 4))]}, key=float)
-    return dict(curve_at=str([at for at in points]).replace("'", '"'), curve_ohms="[" + ", ".join(number(rng, 0.5, 60) for _ in points) + "]")
+    return dict(curve_at=str([at for at in points]).replace("'", '"'), curve_ohms="[" + ", ".join(ohms(rng) for _ in points) + "]")
 
 
 def study(rng, method=None):
@@ -103,7 +107,7 @@ def study(rng, method=None):
         high = low + rng.uniform(0.1, 3)
         text += table("scan", name=f'"s{n}"', bus=rng.choice(buses), network=rng.choice([None, '"positive"', '"zero"']),
                       **{"from": f'"{low:.3f}"', "to": f'"{high:.3f}"'},
-                      **(threshold(rng, low, high) if version == 2 else dict(threshold=number(rng, 0.5, 60))), finest='"0.02"', locate=rng.choice([None, '"0.1"', '"0.5"']))
+                      **(threshold(rng, low, high) if version == 2 else dict(threshold=ohms(rng))), finest='"0.02"', locate=rng.choice([None, '"0.1"', '"0.5"']))
     return text
 
 
