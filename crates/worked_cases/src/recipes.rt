@@ -128,6 +128,88 @@ summary,s1,10,10,0,0,0
 end,0
 ";
 
+/// examples/section.toml.
+pub const SECTION: &str = r#"# A cable of 40 km to a works at 132 kV, as one section.
+study = { version = 1, mva = "100", method = "branchwise" }
+bus = [{ name = "GRID", kv = "132" }, { name = "WORKS", kv = "132" }]
+source = [{ name = "S1", bus = "GRID", r = "0.8", x = "8" }]
+line = [{ name = "CABLE", from = "GRID", to = "WORKS", r = "2", x = "5.2", b = "3000" }]
+
+[[scan]]
+name = "s1"
+bus = "WORKS"
+from = "2"
+to = "25"
+threshold = "300"
+finest = "0.02"
+locate = "0.5"
+"#;
+
+pub const SECTION_REPORT: &str = "\
+scan,s1,WORKS,positive,2.000000,25.000000,300.000000,branchwise
+box,1,2.000000,3.437500,cleared,-,-
+box,2,3.437500,4.875000,cleared,-,-
+box,3,4.875000,5.234375,peak,5.234375,300.835475
+box,4,5.234375,5.593750,peak,5.414062,411.194247
+box,5,5.593750,5.953125,peak,5.773437,1302.890413
+box,6,5.953125,6.312500,peak,6.132812,984.061789
+box,7,6.312500,6.671875,peak,6.492187,390.838303
+box,8,6.671875,7.031250,peak,6.671875,300.719185
+region,1,4.875000,7.031250,243.750000,351.562500,6,0,5.773437,1302.890413
+box,9,7.031250,7.750000,cleared,-,-
+box,10,7.750000,10.625000,cleared,-,-
+box,11,10.625000,13.500000,cleared,-,-
+box,12,13.500000,16.375000,cleared,-,-
+box,13,16.375000,17.093750,cleared,-,-
+box,14,17.093750,17.453125,peak,17.273437,445.808941
+box,15,17.453125,17.812500,peak,17.632812,493.998881
+box,16,17.812500,18.171875,peak,17.812500,319.363001
+region,2,17.093750,18.171875,854.687500,908.593750,3,0,17.632812,493.998881
+box,17,18.171875,18.531250,cleared,-,-
+box,18,18.531250,19.250000,cleared,-,-
+box,19,19.250000,25.000000,cleared,-,-
+summary,s1,19,10,9,0,2
+end,3
+";
+
+/// examples/sections.toml.
+pub const SECTIONS: &str =
+    r#"# A cable of 40 km to a works at 132 kV, as a cascade of eight sections.
+study = { version = 1, mva = "100", method = "branchwise" }
+bus = [{ name = "GRID", kv = "132" }, { name = "WORKS", kv = "132" }]
+source = [{ name = "S1", bus = "GRID", r = "0.8", x = "8" }]
+line = [{ name = "CABLE", from = "GRID", to = "WORKS", r = "2", x = "5.2", b = "3000", sections = 8 }]
+
+[[scan]]
+name = "s1"
+bus = "WORKS"
+from = "2"
+to = "25"
+threshold = "300"
+finest = "0.02"
+locate = "0.5"
+"#;
+
+pub const SECTIONS_REPORT: &str = "\
+scan,s1,WORKS,positive,2.000000,25.000000,300.000000,branchwise
+box,1,2.000000,3.437500,cleared,-,-
+box,2,3.437500,4.875000,cleared,-,-
+box,3,4.875000,5.234375,peak,5.234375,319.194484
+box,4,5.234375,5.593750,peak,5.414062,456.765778
+box,5,5.593750,5.953125,peak,5.773437,2030.043644
+box,6,5.953125,6.312500,peak,6.132812,649.159014
+box,7,6.312500,6.671875,peak,6.492187,305.074168
+region,1,4.875000,6.671875,243.750000,333.593750,5,0,5.773437,2030.043644
+box,8,6.671875,7.031250,cleared,-,-
+box,9,7.031250,7.750000,cleared,-,-
+box,10,7.750000,13.500000,cleared,-,-
+box,11,13.500000,19.250000,cleared,-,-
+box,12,19.250000,22.125000,cleared,-,-
+box,13,22.125000,25.000000,cleared,-,-
+summary,s1,13,8,5,0,1
+end,3
+";
+
 /// examples/zero.toml.
 pub const ZERO: &str =
     r#"# A works behind a transformer whose delta winding looks to the grid, with a grounded bank. In the zero sequence the grid isn't seen:
@@ -205,4 +287,31 @@ box,7,16.562500,17.500000,cleared,-,-
 box,8,17.500000,25.000000,cleared,-,-
 summary,s1,8,7,0,1,1
 end,4
+";
+
+/// examples/branchwise.toml.
+pub const BRANCHWISE: &str =
+    r#"# The study of open.toml, branch by branch: near order 16 the bank and the cable are in resonance behind the intake, and nothing of it
+# is seen at the intake itself.
+study = { version = 1, mva = "100", method = "branchwise" }
+bus = [{ name = "INTAKE", kv = "11" }, { name = "WORKS", kv = "11" }]
+source = [{ name = "GRID", bus = "INTAKE", r = "0.07", x = "0.716" }]
+line = [{ name = "CABLE", from = "INTAKE", to = "WORKS", r = "0.08", x = "0.12" }]
+bank = [{ name = "C1", bus = "WORKS", q = "4" }]
+
+[[scan]]
+name = "s1"
+bus = "INTAKE"
+from = "10"
+to = "25"
+threshold = "50"
+finest = "1"
+locate = "4"
+"#;
+
+pub const BRANCHWISE_REPORT: &str = "\
+scan,s1,INTAKE,positive,10.000000,25.000000,50.000000,branchwise
+box,1,10.000000,25.000000,cleared,-,-
+summary,s1,1,1,0,0,0
+end,0
 ";

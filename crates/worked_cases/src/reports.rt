@@ -56,8 +56,11 @@ fn reports(rt: HostRuntime) -> Result<(), Fail> {
         (recipes::VOLTAGE, recipes::VOLTAGE_REPORT, 3),
         (recipes::TUNED, recipes::TUNED_REPORT, 3),
         (recipes::DETUNED, recipes::DETUNED_REPORT, 0),
+        (recipes::SECTION, recipes::SECTION_REPORT, 3),
+        (recipes::SECTIONS, recipes::SECTIONS_REPORT, 3),
         (recipes::ZERO, recipes::ZERO_REPORT, 3),
         (recipes::OPEN, recipes::OPEN_REPORT, 4),
+        (recipes::BRANCHWISE, recipes::BRANCHWISE_REPORT, 0),
         (curves::LEVEL, curves::LEVEL_REPORT, 0),
         (curves::RISING, curves::RISING_REPORT, 0),
     ];
