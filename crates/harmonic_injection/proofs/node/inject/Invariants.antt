@@ -1,0 +1,6 @@
+use Rattle.std.proofs.Common.{◌≡◌, ◌++◌, drop, map}
+use Rattle.harmonic_injection.specs.Injections.{exact_injection, injections_of}
+use Rattle.harmonic_injection.proofs.node.inject.Given as goal
+
+abbrev pub invariant-loop-row : goal.invariant-loop-row
+invariant-loop-row l = map exact_injection l.injections ++ injections_of l.study (drop l.row-index l.row-items) l.order ≡ injections_of l.study l.row-items l.order

@@ -1,0 +1,3 @@
+pub mod Injections
+pub mod Paths
+pub mod Laws
