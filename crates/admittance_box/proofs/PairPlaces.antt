@@ -71,7 +71,7 @@ module _ (s : ℕ) (ordering : List ℕ) where
       let is : record { place = place; ratio = ratio } ≡ p = cc in
       subst (λ (q : PlacedTap). q.place < length ordering) is (place-below ordering t.node place e1)
 
-  taps_below : (ts us : List Tap) (placed : List PlacedTap) → taps_between s ordering ts us ≡ Some placed → AllByRecursion (λ p. p.place < length ordering) placed
+  pub taps_below : (ts us : List Tap) (placed : List PlacedTap) → taps_between s ordering ts us ≡ Some placed → AllByRecursion (λ p. p.place < length ordering) placed
   taps_below [] us placed e = let is : [] ≡ placed = cc in subst (AllByRecursion (λ (p : PlacedTap). p.place < length ordering)) is tt
   taps_below (t ∷ ts) [] placed e = absurd cc
   taps_below (t ∷ ts) (u ∷ us) placed e =
@@ -94,7 +94,7 @@ module _ (s : ℕ) (ordering : List ℕ) where
       let is : pair ∷ rest ≡ pairs = cc in
       subst (AllByRecursion (Below (length ordering))) is (pair_below t u pair h a.0 e1, row_below t us rest h a.1 e2)
 
-  pairs_below : (ts us : List PlacedTap) (pairs : List TapPair) → AllByRecursion (λ p. p.place < length ordering) ts → AllByRecursion (λ p. p.place < length ordering) us → tap_pairs s ts us ≡ Some pairs → AllByRecursion (Below (length ordering)) pairs
+  pub pairs_below : (ts us : List PlacedTap) (pairs : List TapPair) → AllByRecursion (λ p. p.place < length ordering) ts → AllByRecursion (λ p. p.place < length ordering) us → tap_pairs s ts us ≡ Some pairs → AllByRecursion (Below (length ordering)) pairs
   pairs_below [] us pairs a b e = let is : [] ≡ pairs = cc in subst (AllByRecursion (Below (length ordering))) is tt
   pairs_below (t ∷ ts) us pairs a b e =
       let (row, e1, n1) = bind-some _ _ pairs e in

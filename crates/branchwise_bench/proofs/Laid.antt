@@ -1,0 +1,119 @@
+-- Drops as they are laid out for a pair of networks, and the estimate by what counts at them.
+use Rattle.std.proofs.Common.{◌≡◌, ◌∙◌, ℕ, zero, suc, ◌+◌, ◌-◌, ◌*◌, ◌^◌, ◌<◌, ◌≤◌, Bool, true, false, List, [], ◌∷◌, ◌++◌, length, map, pos, ℤ, ◌<ℤ◌, Option, Some, None, Result, Ok, Err, refl, sym, ap, ap₂, subst, arith}
+use Rattle.std.specs.Prelude.{if◌then◌else◌}
+use Rattle.std.specs.List.{All, AllByRecursion}
+use Rattle.std.proofs.lemmas.List.Elements.{All-nil, All-cons}
+use Rattle.exact_algebra.specs.Ratio.{Ratio, whole}
+use Rattle.complex_interval.specs.Ends.{Ends, range_ends}
+use Rattle.network_theory.specs.Branch.{Branch}
+use Rattle.admittance_box.specs.declared.intervals.TapProduct.{TapProduct}
+use Rattle.admittance_box.specs.Addends.{LawEnds, PlacedTap, TapPair, law_between, taps_between, tap_pairs, has_place}
+use Rattle.admittance_box.specs.Exact.{one_ends}
+use Rattle.admittance_box.specs.Intervals.{pair_ends}
+use Rattle.admittance_box.specs.Orders.{order_ends}
+use Rattle.admittance_box.specs.Steps.{◌>>=◌}
+use Rattle.admittance_box.proofs.PairPlaces.{taps_below, pairs_below}
+use Rattle.admittance_box.proofs.Ranges.{one_ends-is, one_times_one}
+use Rattle.admittance_box.proofs.Steps.{bind-some}
+use Rattle.branchwise_test.specs.declared.fault.BranchwiseFault.{BranchwiseFault}
+use Rattle.branchwise_test.specs.declared.fault.BranchwiseFault.TheVariants.{OutOfRange}
+use Rattle.branchwise_test.specs.Drops.{LiveBranch, DropEnds, node_drops, live_branch, live_branches, with_extra_branch, with_branches}
+use Rattle.branchwise_test.specs.Enclosed.{valued, Near, near_of_drops, near_of, near_of_branches}
+use Rattle.branchwise_bench.specs.declared.drops.DropIntervals.{DropIntervals}
+use Rattle.branchwise_bench.specs.Drops.{drop_ends, IsInside}
+use Rattle.branchwise_bench.specs.Layout.{bare, bare_node, bare_nodes, own_drop, own_drops, counted_all, IsPairInside, AreInside}
+use Rattle.branchwise_bench.proofs.Counting.{nodes_count}
+
+-- ---- places
+abbrev Inside : ℕ → DropEnds → Type 0
+Inside n d = AllByRecursion (IsPairInside n) d.pairs
+
+all-append : (n : ℕ) (xs ys : List DropEnds) → AllByRecursion (Inside n) xs → AllByRecursion (Inside n) ys → AllByRecursion (Inside n) (xs ++ ys)
+all-append n [] ys a b = b
+all-append n (x ∷ xs) ys a b = (a.0, all-append n xs ys a.1 b)
+
+nodes_inside : (s n place count : ℕ) → place + count ≤ n → AllByRecursion (Inside n) (bare_nodes s place count)
+nodes_inside s n place zero l = tt
+nodes_inside s n place (suc count) l = (((omega arith, omega arith), tt), nodes_inside s n (suc place) count (omega arith))
+
+own_inside : (n : ℕ) (taps : List PlacedTap) (pairs : List TapPair) (others : List DropEnds) → AllByRecursion (IsPairInside n) pairs → AllByRecursion (Inside n) others → AllByRecursion (Inside n) (own_drop taps pairs others)
+own_inside n taps [] others a b = b
+own_inside n taps (p ∷ []) others a b = b
+own_inside n taps (p ∷ q ∷ pairs) others a b = (a, b)
+
+owns_inside : (n : ℕ) (bs : List LiveBranch) → AreInside n bs → AllByRecursion (Inside n) (own_drops bs)
+owns_inside n [] a = tt
+owns_inside n (b ∷ bs) a = own_inside n b.taps b.pairs (own_drops bs) a.0 (owns_inside n bs a.1)
+
+module _ {E : Type 0} (ends : E → Ends) (n : ℕ) where
+  pairs_inside : (ps : List (TapProduct E)) → AllByRecursion (IsPairInside n) (map (pair_ends ends) ps) → All (λ p. (p.row < n) × (p.column < n)) ps
+  pairs_inside [] a = All-nil (λ (p : TapProduct E). (p.row < n) × (p.column < n))
+  pairs_inside (p ∷ ps) a = All-cons (λ (p : TapProduct E). (p.row < n) × (p.column < n)) p ps a.0 (pairs_inside ps a.1)
+
+  drops_inside : (ds : List (DropIntervals E)) → AllByRecursion (Inside n) (map bare (map (drop_ends ends) ds)) → All (IsInside n) ds
+  drops_inside [] a = All-nil (IsInside n)
+  drops_inside (d ∷ ds) a = All-cons (IsInside n) d ds (pairs_inside d.pairs.items a.0) (drops_inside ds a.1)
+
+  pub laid_inside : (s : ℕ) (bs : List LiveBranch) (ds : List (DropIntervals E)) → map bare (map (drop_ends ends) ds) ≡ bare_nodes s 0 n ++ own_drops bs → AreInside n bs → All (IsInside n) ds
+  laid_inside s bs ds e a = drops_inside ds (subst (AllByRecursion (Inside n)) (sym e) (all-append n (bare_nodes s 0 n) (own_drops bs) (nodes_inside s n 0 n (omega arith)) (owns_inside n bs a)))
+
+-- the pairs of live branches
+module _ (s : ℕ) (ordering : List ℕ) where
+  live_pairs : (a b : Branch) (l : LiveBranch) → live_branch s ordering a b ≡ Some l → AllByRecursion (IsPairInside (length ordering)) l.pairs
+  live_pairs a b l e = go (law_between s a.law b.law) (taps_between s ordering a.taps b.taps) (taps_below s ordering a.taps b.taps) e
+    where
+      go : (o : Option LawEnds) (p : Option (List PlacedTap)) → ((taps : List PlacedTap) → p ≡ Some taps → AllByRecursion (λ t. t.place < length ordering) taps)
+          → (o >>= (λ law. p >>= (λ taps. tap_pairs s taps taps >>= (λ pairs. Some (record { law = law; taps = taps; pairs = pairs }))))) ≡ Some l → AllByRecursion (IsPairInside (length ordering)) l.pairs
+      go None p below e = absurd cc
+      go (Some law) None below e = absurd cc
+      go (Some law) (Some taps) below e =
+          let (pairs, e3, n3) = bind-some (tap_pairs s taps taps) (λ pairs. Some (record { law = law; taps = taps; pairs = pairs })) l e in
+          let is : record { law = law; taps = taps; pairs = pairs } ≡ l = cc in
+          subst (λ (k : LiveBranch). AllByRecursion (IsPairInside (length ordering)) k.pairs) is (pairs_below s ordering taps taps pairs (below taps refl) (below taps refl) e3)
+
+  pub live_inside : (ls hs : List Branch) (bs : List LiveBranch) → live_branches s ordering ls hs ≡ Some bs → AreInside (length ordering) bs
+  live_inside [] hs bs e = let is : [] ≡ bs = cc in subst (AreInside (length ordering)) is tt
+  live_inside (a ∷ ls) [] bs e = let is : [] ≡ bs = cc in subst (AreInside (length ordering)) is tt
+  live_inside (a ∷ ls) (c ∷ hs) bs e = go (has_place ordering a.taps) e (live_inside ls hs)
+    where
+      go : (t : Bool) → (if t then live_branch s ordering a c >>= (λ o. live_branches s ordering ls hs >>= (λ os. Some (o ∷ os))) else live_branches s ordering ls hs) ≡ Some bs
+          → ((os : List LiveBranch) → live_branches s ordering ls hs ≡ Some os → AreInside (length ordering) os) → AreInside (length ordering) bs
+      go true q more =
+          let (o, e1, n1) = bind-some (live_branch s ordering a c) (λ o. live_branches s ordering ls hs >>= (λ os. Some (o ∷ os))) bs q in
+          let (os, e2, n2) = bind-some (live_branches s ordering ls hs) (λ os. Some (o ∷ os)) bs n1 in
+          let is : o ∷ os ≡ bs = cc in
+          subst (AreInside (length ordering)) is (live_pairs a c o e1, more os e2)
+      go false q more = more bs q
+
+-- ---- the ratio 1
+pub one_range : (s : ℕ) → s ≤ 48 → range_ends s (whole (pos 1)) (whole (pos 1)) ≡ Some (one_ends s)
+unfolding whole
+one_range s small = one_ends-is s small
+
+-- ---- the estimate
+pub nodes_are : (s : ℕ) → s ≤ 48 → (place count : ℕ) → node_drops s place count ≡ Some (bare_nodes s place count)
+nodes_are s small place zero = refl
+nodes_are s small place (suc count) = rw (one_times_one s small, nodes_are s small (suc place) count) refl
+
+one_near : (s n : ℕ) (h : Ends) (nodes : List DropEnds) (all : List LiveBranch) → length nodes ≡ n → near_of s h nodes all ≡ valued (with_branches s h all nodes) (near_of_drops s n)
+unfolding near_of
+one_near s n h nodes all e = ap (λ m. valued (with_branches s h all nodes) (near_of_drops s m)) e
+
+pub near_counted : (s : ℕ) → s ≤ 48 → (n : ℕ) (bs : List LiveBranch) (e : Ratio) (lo hi : ℕ) → near_of_branches s n (Some bs) e lo hi ≡ valued (counted_all s (order_ends s lo hi) n e bs) (near_of_drops s n)
+near_counted s small n bs e lo hi = rw (nodes_are s small 0 n) (go (with_extra_branch s (n - 1) e bs))
+  where
+    go : (o : Option (List LiveBranch)) → valued o (near_of s (order_ends s lo hi) (bare_nodes s 0 n)) ≡ valued (o >>= (λ all. with_branches s (order_ends s lo hi) all (bare_nodes s 0 n))) (near_of_drops s n)
+    go (Some all) = one_near s n (order_ends s lo hi) (bare_nodes s 0 n) all (nodes_count s 0 n)
+    go None = refl
+
+pub near_by_count : (s : ℕ) → s ≤ 48 → (n : ℕ) (bs : List LiveBranch) (e : Ratio) (lo hi : ℕ) (h : Ends) (o : Option (List DropEnds)) → h ≡ order_ends s lo hi → o ≡ counted_all s h n e bs → valued o (near_of_drops s n) ≡ near_of_branches s n (Some bs) e lo hi
+near_by_count s small n bs e lo hi h o k q =
+    ap (λ (p : Option (List DropEnds)). valued p (near_of_drops s n)) (q ∙ ap (λ i. counted_all s i n e bs) k) ∙ sym (near_counted s small n bs e lo hi)
+
+-- a pair whose branches have no intervals
+pub no_branches : (s n : ℕ) (e : Ratio) (lo hi : ℕ) → Err OutOfRange ≡ near_of_branches s n None e lo hi
+no_branches s n e lo hi = go (node_drops s 0 n)
+  where
+    go : (o : Option (List DropEnds)) → ◌≡◌ {A = Result Near BranchwiseFault} (Err OutOfRange) (valued o (λ nodes. Err OutOfRange))
+    go (Some nodes) = refl
+    go None = refl
