@@ -13,7 +13,7 @@ use crate::live::LiveBranchIntervals;
 use admittance_box::{exact_one, shunt_admittance};
 use complex_interval::{Enclosure, Rect};
 use exact_fraction::Fraction;
-use middle_inverse::{middle_point, nought_point};
+use middle_inverse::{middle_rectangle, nought_point};
 
 impl<E: Enclosure> DropIntervals<E> {
     // Takes away what counts at the drop.
@@ -121,7 +121,7 @@ fn count_branch<E: Enclosure>(
     ensures bare { map bare (map (drop_ends E.ends) drops.new) ≡ map bare (map (drop_ends E.ends) drops.old) }
 {
     let y = branch.law.admittance(order)?;
-    let middle = middle_point(y);
+    let middle = middle_rectangle(y);
     let rest = y.sub(middle)?;
     count_at(branch, middle, rest, drops, done)
 }
@@ -163,7 +163,7 @@ fn count_extra<E: Enclosure>(
     }
     let susceptance = E::from_fraction(extra)?;
     let y = shunt_admittance(susceptance, order)?;
-    let middle = middle_point(y);
+    let middle = middle_rectangle(y);
     let rest = y.sub(middle)?;
     let all = drops.len();
     raise_at(drops, all, place, middle, rest, exact_one())
