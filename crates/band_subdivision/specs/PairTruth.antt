@@ -3,10 +3,11 @@ use Rattle.std.specs.Prelude.{ℕ, List, ℤ, pos, ◌≤ℤ◌}
 use Rattle.exact_algebra.specs.Ratio.{Ratio}
 use Rattle.network_theory.specs.Network.{Network}
 use Rattle.network_theory.specs.Between.{LiesBetween}
+use Rattle.network_theory.specs.Extra.{scanned_network}
 use Rattle.network_theory.specs.Threshold.{Threshold}
 use Rattle.admittance_box.specs.HeldMatrix.{CanAssemble}
 use Rattle.band_subdivision.specs.Levels.{AreLevelsOf}
-use Rattle.band_subdivision.specs.PairTest.{Asked, pair_test, scanned_network}
+use Rattle.band_subdivision.specs.PairTest.{Asked, pair_test}
 use Rattle.band_subdivision.specs.Scan.{Scanning, test_of}
 use Rattle.band_subdivision.specs.ScanSpec.{threshold_of, widths_of}
 use Rattle.band_subdivision.specs.Truth.{Scanned, scanned_by, IsSound, IsClearedBox, IsTruePeak, IsTrueRow}
