@@ -1,13 +1,16 @@
 -- The ends of the exact 1 and of a box of orders.
-use Rattle.std.proofs.Common.{◌≡◌, ℕ, suc, ◌-◌, ◌*◌, ◌^◌, ◌≤◌, ◌<◌, ap, ap₂, ◌∙◌, arith, true, Option, ℤ, pos, neg_ℤ, ◌≤ℤ◌, ◌<ℤ◌}
-use Rattle.std.specs.Prelude.{Some, unsigned_abs}
+use Rattle.std.proofs.Common.{◌≡◌, ℕ, suc, ◌-◌, ◌*◌, ◌^◌, ◌≤◌, ◌<◌, ap, ap₂, ◌∙◌, arith, refl, Bool, true, false, Option, ℤ, pos, neg_ℤ, ◌≤ℤ◌, ◌<ℤ◌}
+use Rattle.std.specs.Prelude.{Some, unsigned_abs, cond, int_lt}
+use Rattle.std.specs.Int.{int_min, int_max}
 use Rattle.std.proofs.Math.Nat.{pow-le-pow_right, mul-le-mul_left}
 use Rattle.std.proofs.lemmas.Bool.Decides.{nat_tests}
 use Rattle.std.proofs.lemmas.Int.{ints}
+use Rattle.std.proofs.lemmas.Nat.{pow_pos}
 use Rattle.exact_algebra.specs.Floor.{floor_div, ceil_div}
 use Rattle.exact_algebra.specs.Ratio.{Ratio, over, den, whole, ◌≼◌}
+use Rattle.exact_algebra.proofs.Differences.{neg-mul}
 use Rattle.exact_algebra.proofs.WholeOrder.{floor_div_le, floor_div_greatest, floor_div-is, ceil_div_least, ceil_div_ge}
-use Rattle.complex_interval.specs.Ends.{Ends, Encloses, is_end, ends_in_range, range_ends}
+use Rattle.complex_interval.specs.Ends.{Ends, Encloses, is_end, ends_in_range, range_ends, mul_ends, least_of_four, greatest_of_four}
 use Rattle.complex_interval.proofs.Ranges.{floor_at_most, ceil_at_least}
 use Rattle.network_theory.specs.Order.{Order, IsOrder, fraction}
 use Rattle.admittance_box.specs.Exact.{zero_ends, one_ends}
@@ -46,6 +49,32 @@ one_ends-is s h = let n = unit_small s h in one_is (2 ^ s) (omega arith)
         let down : floor_div (neg_ℤ (pos (1 * n))) 1 ≡ neg_ℤ (pos n) = floor_div-is (neg_ℤ (pos n)) (neg_ℤ (pos (1 * n))) 1 (omega arith) (omega (arith, ints)) (omega (arith, ints)) in
         let high : ceil_div (pos (1 * n)) 1 ≡ pos n = omega (arith, ints, down) in
         ap₂ ends_in_range low high ∙ in_range-small (pos n) (pos n) (omega (arith, ints)) (omega (arith, ints)) (omega (arith, ints)) (omega (arith, ints))
+
+-- and so is its square, which is the unit again
+square_of_one : (n : ℕ) → 1 ≤ n → n ≤ 2 ^ 62 → (low high : ℤ) → low ≡ pos (n * n) → high ≡ pos (n * n) → ends_in_range (floor_div low n) (ceil_div high n) ≡ Some (record { low = pos n; high = pos n })
+square_of_one n one k low high p q =
+    let down : floor_div low n ≡ pos n = floor_div-is (pos n) low n one (omega (arith, ints, p)) (omega (arith, ints, p)) in
+    let turned = neg-mul (pos n) (pos n) in
+    let up : floor_div (neg_ℤ high) n ≡ neg_ℤ (pos n) = floor_div-is (neg_ℤ (pos n)) (neg_ℤ high) n one (omega (arith, ints, q, turned)) (omega (arith, ints, q, turned)) in
+    let above : ceil_div high n ≡ pos n = omega (arith, ints, up) in
+    ap₂ ends_in_range down above ∙ in_range-small (pos n) (pos n) (omega (arith, ints)) (omega (arith, ints)) (omega (arith, ints)) (omega (arith, ints))
+
+pub one_times_one : (s : ℕ) → s ≤ 48 → mul_ends s (one_ends s) (one_ends s) ≡ Some (one_ends s)
+one_times_one s h =
+    let n = unit_small s h in
+    let some = pow_pos s in
+    square_of_one (2 ^ s) (omega arith) (omega arith) _ _ (ap₂ int_min (least (pos (2 ^ s * 2 ^ s))) (least (pos (2 ^ s * 2 ^ s))) ∙ least (pos (2 ^ s * 2 ^ s)))
+    (ap₂ int_max (greatest (pos (2 ^ s * 2 ^ s))) (greatest (pos (2 ^ s * 2 ^ s))) ∙ greatest (pos (2 ^ s * 2 ^ s)))
+  where
+    either : (t : Bool) (x : ℤ) → cond t x x ≡ x
+    either true x = refl
+    either false x = refl
+
+    least : (x : ℤ) → int_min x x ≡ x
+    least x = either (int_lt x x) x
+
+    greatest : (x : ℤ) → int_max x x ≡ x
+    greatest x = either (int_lt x x) x
 
 -- the order as a fraction is above 0
 pub fraction_above : (h : Order) → IsOrder h → pos 0 <ℤ (fraction h).num

@@ -9,7 +9,7 @@ ghost use Rattle.net_branch.specs.Whole.{IsWholeNetwork};
 ghost use Rattle.admittance_box.specs.Assembled.{Assembled, IsMade};
 ghost use Rattle.admittance_box.specs.BoxMatrix.{box_matrix};
 ghost use Rattle.admittance_box.specs.Filled.{FillsAs};
-ghost use Rattle.admittance_box.specs.HeldMatrix.{HasNoGroup, HoldsEach};
+ghost use Rattle.admittance_box.specs.HeldMatrix.{HasNoGroup, CanAssemble, HoldsEach};
 ghost use Rattle.admittance_box.specs.Pattern.{IsPattern};
 ghost use Rattle.admittance_box.specs.declared.fill.Fill.TheVariants.{Filled};
 
@@ -98,6 +98,29 @@ impl<E: Enclosure> Assembly<E> {
         ensures live { ListsLive self.now.low self.now.ordering }
     {
         self.ordering.len() as u32
+    }
+
+    /// The network from whose numbers the intervals run.
+    pub fn low(&self) -> &Network
+        ensures { exact_network result.now ≡ self.now.low }
+    {
+        &self.low
+    }
+
+    /// The network to whose numbers they run.
+    pub fn high(&self) -> &Network
+        ensures { exact_network result.now ≡ self.now.high }
+    {
+        &self.high
+    }
+
+    /// The live nodes in their ordering, the driven one last.
+    pub fn ordering(&self) -> &[u32]
+        ensures nodes { result.now ≡ self.now.ordering }
+        ensures few { length result.now ≤ MAX_NODES }
+        ensures ready { CanAssemble self.now.low self.now.high self.now.driven self.now.ordering }
+    {
+        self.ordering.as_slice()
     }
 
     /// The place of a node in the matrix, counted from 0. None exactly where the node isn't live.

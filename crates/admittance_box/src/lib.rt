@@ -26,3 +26,4 @@ pub use series::{SeriesParameters, SeriesValues, series_admittance};
 pub use shunt::shunt_admittance;
 pub use skin::resistance;
 pub use spots::{pattern, zero_outside};
+pub use taps::{any_place, placed_taps, products};

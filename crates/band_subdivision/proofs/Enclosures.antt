@@ -14,7 +14,7 @@ use Rattle.network_theory.specs.Order.{Order, IsOrder}
 use Rattle.network_theory.specs.Box.{LiesIn}
 use Rattle.network_theory.specs.Network.{Network}
 use Rattle.network_theory.specs.Between.{LiesBetween}
-use Rattle.network_theory.specs.Extra.{shunt_at, with_shunt}
+use Rattle.network_theory.specs.Extra.{shunt_at, with_shunt, scanned_network}
 use Rattle.network_theory.specs.Impedance.{shunt_admittance}
 use Rattle.network_theory.specs.Admittance.{Part, Alone}
 use Rattle.network_theory.specs.DrivingPoint.{unit_at}
@@ -32,7 +32,7 @@ use Rattle.admittance_box.proofs.HeldMatrices.{box_matrix_holds}
 use Rattle.admittance_box.specs.Steps.{◌>>=◌}
 use Rattle.admittance_box.proofs.Steps.{bind-some}
 use Rattle.band_subdivision.specs.Levels.{orders}
-use Rattle.band_subdivision.specs.PairTest.{with_extra, pair_rows, with_last, last_enclosure, pair_enclosure, scanned_network}
+use Rattle.band_subdivision.specs.PairTest.{with_extra, pair_rows, with_last, last_enclosure, pair_enclosure}
 use Rattle.band_subdivision.specs.Truth.{IsImpedanceNear, EnclosesImpedance}
 use Rattle.band_subdivision.proofs.PairTests.{ok_some, not_above, extra_held, held_without}
 open complex_numbers use {◌≈◌ as ◌≅◌, nought, unit, ◌⊕◌, ◌⊗◌}

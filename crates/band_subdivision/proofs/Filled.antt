@@ -1,6 +1,7 @@
 -- What the parts of a test say of a box.
-use Rattle.std.proofs.Common.{◌≡◌, ◌∙◌, ℕ, zero, suc, ◌-◌, ℤ, Bool, true, false, List, [], ◌∷◌, length, Option, Some, None, Result, refl, sym, subst, ap, ap₂, nat_le}
+use Rattle.std.proofs.Common.{◌≡◌, ◌∙◌, ℕ, zero, suc, ◌-◌, ◌≤◌, ◌<◌, ℤ, Bool, true, false, List, [], ◌∷◌, length, Option, Some, None, Result, refl, sym, subst, ap, ap₂, nat_le, arith}
 use Rattle.std.specs.Prelude.{◌&&◌, ◌||◌, if◌then◌else◌, is_some}
+use Rattle.std.proofs.lemmas.Bool.Decides.{nat_tests}
 use Rattle.exact_algebra.specs.Ratio.{Ratio}
 use Rattle.network_theory.specs.Network.{Network}
 use Rattle.complex_interval.specs.Ends.{Ends, range_ends}
@@ -92,6 +93,12 @@ kept_second (Some x) p e = absurd cc
 kept_second None p e = refl
 
 -- ---- the test of a box by its parts
+narrow : (m n : ℕ) → m ≤ n → nat_le m n ≡ true
+narrow m n h = grind (arith, nat_tests)
+
+wide : (m n : ℕ) → n < m → nat_le m n ≡ false
+wide m n h = grind (arith, nat_tests)
+
 module _ (s : ℕ) (asked : Asked) (a : Assembled) (e : Ratio) (lo hi : ℕ) (kept : Levels) (el : kept ≡ asked.levels lo hi) where
   abbrev test : BoxTest
   test = pair_test s asked a.low a.high a.ordering e
@@ -150,17 +157,17 @@ module _ (s : ℕ) (asked : Asked) (a : Assembled) (e : Ratio) (lo hi : ℕ) (ke
       above_second bound o r eb eo failed er = er ∙ sym (above_is ∙ ap (λ o. or_else o (second.above lo hi)) (first_above bound o eb eo) ∙ kept_second o _ failed)
 
     -- the inverse part
-    module _ (E : Type 0) (n : ℕ) (en : OfInverse n ≡ bench_of E s a asked.method) (near : Bool) (is : near ≡ nat_le (hi - lo) asked.locate) where
+    module _ (E : Type 0) (n : ℕ) (en : OfInverse n ≡ bench_of E s a asked.method) where
       asks : second ≡ where_near asked.locate inverse
       asks = inverse_asked E s a asked.locate inverse branchwise asked.method n en
 
-      pub far_clear : near ≡ false → false ≡ second.clear lo hi
-      far_clear far = sym (ap (λ (t : BoxTest). t.clear lo hi) asks ∙ ap (λ t. t && inverse.clear lo hi) (sym is ∙ far))
+      pub far_clear : asked.locate < hi - lo → false ≡ second.clear lo hi
+      far_clear far = sym (ap (λ (t : BoxTest). t.clear lo hi) asks ∙ ap (λ t. t && inverse.clear lo hi) (wide _ _ far))
 
-      pub far_above : near ≡ false → None ≡ second.above lo hi
-      far_above far = sym (ap (λ (t : BoxTest). t.above lo hi) asks ∙ ap (λ t. if t then inverse.above lo hi else None) (sym is ∙ far))
+      pub far_above : asked.locate < hi - lo → None ≡ second.above lo hi
+      far_above far = sym (ap (λ (t : BoxTest). t.above lo hi) asks ∙ ap (λ t. if t then inverse.above lo hi else None) (wide _ _ far))
 
-      module _ (here : near ≡ true) (z : InverseOutcome) (ez : z ≡ enclosure_with s a.low a.high a.ordering susceptance lo hi) where
+      module _ (here : hi - lo ≤ asked.locate) (z : InverseOutcome) (ez : z ≡ enclosure_with s a.low a.high a.ordering susceptance lo hi) where
         enclosure_here : z ≡ enclosed lo hi
         unfolding pair_enclosure
         enclosure_here = ez ∙ ap (λ b. enclosure_with s a.low a.high a.ordering b lo hi) es
@@ -168,12 +175,12 @@ module _ (s : ℕ) (asked : Asked) (a : Assembled) (e : Ratio) (lo hi : ℕ) (ke
         pub inverse_clear : (r : Bool) → r ≡ is_within_by (most_within s kept) z → r ≡ second.clear lo hi
         unfolding inverse_test
         inverse_clear r er =
-            er ∙ ap₂ is_within_by (ap (most_within s) el) enclosure_here ∙ sym (ap (λ (t : BoxTest). t.clear lo hi) asks ∙ ap (λ t. t && inverse.clear lo hi) (sym is ∙ here))
+            er ∙ ap₂ is_within_by (ap (most_within s) el) enclosure_here ∙ sym (ap (λ (t : BoxTest). t.clear lo hi) asks ∙ ap (λ t. t && inverse.clear lo hi) (narrow _ _ here))
 
         pub inverse_above : (r : Option ℤ) → r ≡ ohms_over_by s kept (least_above s kept) z → r ≡ second.above lo hi
         unfolding inverse_test
         inverse_above r er =
-            er ∙ ap₂ (λ l z. ohms_over_by s l (least_above s l) z) el enclosure_here ∙ sym (ap (λ (t : BoxTest). t.above lo hi) asks ∙ ap (λ t. if t then inverse.above lo hi else None) (sym is ∙ here))
+            er ∙ ap₂ (λ l z. ohms_over_by s l (least_above s l) z) el enclosure_here ∙ sym (ap (λ (t : BoxTest). t.above lo hi) asks ∙ ap (λ t. if t then inverse.above lo hi else None) (narrow _ _ here))
 
   -- nothing
   pub nothing_clear : (E : Type 0) → Nothing ≡ bench_of E s a asked.method → false ≡ second.clear lo hi

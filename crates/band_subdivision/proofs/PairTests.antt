@@ -18,7 +18,7 @@ use Rattle.network_theory.specs.Order.{Order, IsOrder, fraction}
 use Rattle.network_theory.specs.Box.{LiesIn}
 use Rattle.network_theory.specs.Network.{Network}
 use Rattle.network_theory.specs.Between.{LiesBetween}
-use Rattle.network_theory.specs.Extra.{with_shunt}
+use Rattle.network_theory.specs.Extra.{with_shunt, scanned_network}
 use Rattle.network_theory.specs.Impedance.{shunt_admittance}
 use Rattle.network_theory.specs.Reduced.{IsReducedTo}
 use Rattle.network_theory.proofs.Extra.{extra_shunt}
@@ -27,7 +27,7 @@ use Rattle.admittance_box.specs.Orders.{order_ends}
 use Rattle.admittance_box.proofs.Ranges.{order_encloses}
 use Rattle.admittance_box.proofs.ReducedMatrices.{reduced_matrix_holds}
 use Rattle.admittance_box.proofs.Steps.{bind-some}
-use Rattle.band_subdivision.specs.PairTest.{with_extra, pair_value, scanned_network}
+use Rattle.band_subdivision.specs.PairTest.{with_extra, pair_value}
 use Rattle.band_subdivision.specs.Levels.{orders}
 use Rattle.band_subdivision.specs.Truth.{ReducesTo}
 

@@ -30,12 +30,7 @@ pub fn new_bench<E: Enclosure>(
 {
     match method {
         Method::Elimination => Ok(SecondBench::Nothing),
-        Method::Both => Ok(SecondBench::OfInverse(InverseBench::new(
-            alloc,
-            assembly.size(),
-        )?)),
-        Method::Branchwise => Ok(SecondBench::OfDrops(BranchwiseBench::new(
-            alloc, assembly,
-        )?)),
+        Method::Both => Ok(SecondBench::OfInverse(InverseBench::new(alloc, assembly.size())?)),
+        Method::Branchwise => Ok(SecondBench::OfDrops(BranchwiseBench::new(alloc, assembly)?)),
     }
 }

@@ -4,5 +4,6 @@ pub mod Branches
 pub mod Middles
 pub mod Counts
 pub mod Main
+pub mod Extra
 pub mod Worked
 pub mod Answers

@@ -11,9 +11,11 @@ use Rattle.exact_algebra.proofs.Reader.{reads, ring, none_left}
 use Rattle.complex_interval.specs.Ends.{mag_of}
 use Rattle.complex_interval.specs.Rectangles.{Rectangle, EnclosesComplex, sub_rectangles}
 use Rattle.complex_interval.proofs.RectangleLaws.{sub_encloses_rectangle}
-use Rattle.network_theory.specs.Order.{Order}
+use Rattle.network_theory.specs.Order.{Order, IsOrder}
+use Rattle.network_theory.specs.Box.{LiesIn}
 use Rattle.network_theory.specs.Branch.{Tap}
 use Rattle.network_theory.specs.Network.{Network}
+use Rattle.network_theory.specs.Between.{LiesBetween}
 use Rattle.network_theory.specs.Live.{Live}
 use Rattle.network_theory.specs.Admittance.{Part}
 use Rattle.network_theory.specs.Nodal.{ListsLive, pair_entry, nodal_entry}
@@ -29,6 +31,7 @@ use Rattle.certified_inverse.specs.Certificate.{ceil_over, unit_rectangles, AreR
 use Rattle.certified_inverse.proofs.Shape.{inverse_shape}
 use Rattle.admittance_box.specs.Addends.{PlacedTap}
 use Rattle.admittance_box.specs.BoxMatrix.{nought_rows}
+use Rattle.admittance_box.specs.HeldMatrix.{CanAssemble}
 use Rattle.admittance_box.specs.Orders.{order_ends}
 use Rattle.admittance_box.specs.Places.{place_of}
 use Rattle.admittance_box.proofs.HeldEntries.{item_at, entries_same}
@@ -51,11 +54,11 @@ use Rattle.branchwise_laws.proofs.Pairs.{counted_add_up}
 use Rattle.branchwise_laws.proofs.Wholes.{whole_test}
 use Rattle.branchwise_test.specs.declared.fault.BranchwiseFault.{BranchwiseFault}
 use Rattle.branchwise_test.specs.declared.fault.BranchwiseFault.TheVariants.{NotContracting}
-use Rattle.branchwise_test.specs.Drops.{DropEnds, node_drops, with_middles}
+use Rattle.branchwise_test.specs.Drops.{DropEnds, LiveBranch, node_drops, live_branches, with_middles}
 use Rattle.branchwise_test.specs.Sizes.{Bounds, drop_over, all_voltages, kept_size, left_row, left_sizes, drop_sizes, bounds_of}
 use Rattle.branchwise_test.specs.Reach.{Contraction}
-use Rattle.branchwise_test.specs.Enclosed.{valued, Near, Found, contracting, correction, near_by, near_with, by_inverse, near_of_drops, near_of, impedance_near}
-use Rattle.branchwise_test.specs.Holds.{IsNear, ImpedanceIsNear}
+use Rattle.branchwise_test.specs.Enclosed.{valued, Near, Found, contracting, correction, near_by, near_with, by_inverse, near_of_drops, near_of}
+use Rattle.branchwise_test.specs.Holds.{IsNear}
 use Rattle.branchwise_test.proofs.Zips.{same_length, each_holds, zip_at, each_at, zip_got, each_below, get_or-map}
 use Rattle.branchwise_test.proofs.Rows.{HoldsRow, matrix_number, matrix_held, drop_over_holds, left_widths}
 use Rattle.branchwise_test.proofs.Branches.{HoldsDrop, HoldDrops, places_are, node_link, nodes_hold, nodes_first, nodes_add_nothing, all_live, branches_held}
@@ -65,7 +68,7 @@ open complex_numbers use {◌≈◌, nought, ◌⊕◌, ◌⊗◌, minus}
 open complex_field use {same}
 
 -- ---- steps that gave a value
-valued-ok : {X Y : Type 0} (o : Option X) (f : X → Result Y BranchwiseFault) (y : Y) → valued o f ≡ Ok y → (x : X) × (o ≡ Some x) × (f x ≡ Ok y)
+pub valued-ok : {X Y : Type 0} (o : Option X) (f : X → Result Y BranchwiseFault) (y : Y) → valued o f ≡ Ok y → (x : X) × (o ≡ Some x) × (f x ≡ Ok y)
 valued-ok None f y e = absurd cc
 valued-ok (Some x) f y e = (x, refl, e)
 
@@ -299,11 +302,12 @@ module _ (s : ℕ) (ordering : List ℕ) (network : Network) (listed : ListsLive
           (finished s ordering network listed h driven k live place parts drops links0 ps cs linked0 first0 held0 ep shape vs column xs sizes left transfers rests c error value sum estimated e1 b1 b2 b3 e3 e4 e5 (subst (λ o. Contracts s k o drops sizes c) (sym bounds_are) C) below (kept_is _ _ f1) f2 f3 f4)
 
 -- ---- the whole
-pub impedance_is_near : (s : ℕ) → ImpedanceIsNear s
-unfolding impedance_near near_of
-impedance_is_near s low high driven ordering can lo hi near e h is_order lies network between =
-    let (nodes, e0, n0) = valued-ok _ _ near e in
-    let (branches, e1, n1) = valued-ok _ _ near n0 in
+-- by the live branches of a pair
+pub live_near : (s : ℕ) (low high : Network) (driven : ℕ) (ordering : List ℕ) → CanAssemble low high driven ordering → (lo hi : ℕ) (near : Near) (nodes : List DropEnds) → node_drops s 0 (length ordering) ≡ Some nodes
+    → (branches : List LiveBranch) → live_branches s ordering low.branches high.branches ≡ Some branches → near_of s (order_ends s lo hi) nodes branches ≡ Ok near
+    → (h : Order) → IsOrder h → LiesIn h (record { lo = lo; hi = hi }) → (network : Network) → LiesBetween network low high → IsNear s network h driven near
+unfolding near_of
+live_near s low high driven ordering can lo hi near nodes e0 branches e1 n1 h is_order lies network between =
     let (drops, e2, n2) = valued-ok _ _ near n1 in
     let count : length nodes ≡ length ordering = same_length _ nodes (map (node_link s ordering network listed) ordering) (start_held nodes e0) ∙ length-map ordering (node_link s ordering network listed) in
     let (ps, e3, n3) = valued-ok _ _ near (subst (λ m. near_of_drops s m drops ≡ Ok near) count n2) in

@@ -1,11 +1,12 @@
 -- The drops of a pair of networks over a box of orders, on pairs of ends. The drop of some taps is the sum of their nodes' voltages, each times its tap's ratio.
-use Rattle.std.specs.Prelude.{ℕ, zero, suc, List, [], ◌∷◌, ◌++◌, slice_get, slice_set, Option, Some, if◌then◌else◌}
-use Rattle.complex_interval.specs.Ends.{Ends}
+use Rattle.std.specs.Prelude.{ℕ, zero, suc, pos, int_lt, List, [], ◌∷◌, ◌++◌, slice_get, slice_set, Option, Some, if◌then◌else◌}
+use Rattle.exact_algebra.specs.Ratio.{Ratio, whole}
+use Rattle.complex_interval.specs.Ends.{Ends, range_ends}
 use Rattle.complex_interval.specs.Rectangles.{Rectangle, add_rectangles, sub_rectangles, scale_rectangle}
 use Rattle.network_theory.specs.Branch.{Branch}
 use Rattle.plain_elimination.specs.Matrix.{nought_rectangle}
 use Rattle.middle_inverse.specs.Inverse.{middle_point}
-use Rattle.admittance_box.specs.Addends.{LawEnds, PlacedTap, TapPair, law_between, taps_between, tap_pairs, has_place}
+use Rattle.admittance_box.specs.Addends.{LawEnds, OfShunt, PlacedTap, TapPair, law_between, taps_between, tap_pairs, has_place}
 use Rattle.admittance_box.specs.BoxMatrix.{law_rectangle, with_pairs}
 use Rattle.admittance_box.specs.Exact.{one_ends}
 use Rattle.admittance_box.specs.Steps.{◌>>=◌}
@@ -31,6 +32,18 @@ live_branches s ordering (a ∷ rest) (b ∷ bs) =
     if has_place ordering a.taps
     then live_branch s ordering a b >>= (λ l. live_branches s ordering rest bs >>= (λ ls. Some (l ∷ ls)))
     else live_branches s ordering rest bs
+
+-- a Shunt of susceptance e to ground at the node of this place: one tap, of ratio 1
+abbrev pub extra_branch : ℕ → ℕ → Ratio → Option LiveBranch
+extra_branch s place e = do
+  susceptance ← range_ends s e e
+  one ← range_ends s (whole (pos 1)) (whole (pos 1))
+  pairs ← tap_pairs s (record { place = place; ratio = one } ∷ []) (record { place = place; ratio = one } ∷ [])
+  Some (record { law = OfShunt susceptance; taps = record { place = place; ratio = one } ∷ []; pairs = pairs })
+
+-- the branches with that one after all others, where e is above 0
+abbrev pub with_extra_branch : ℕ → ℕ → Ratio → List LiveBranch → Option (List LiveBranch)
+with_extra_branch s place e branches = if int_lt (pos 0) e.num then extra_branch s place e >>= (λ extra. Some (branches ++ extra ∷ [])) else Some branches
 
 -- a drop: its taps with their pairs, and the sums of the middles and of the rests of the admittances that count at it
 pub record DropEnds : Type 0 where

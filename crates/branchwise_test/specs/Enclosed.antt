@@ -1,5 +1,6 @@
 -- The driving-point impedance of a pair of networks over a box of orders: an estimate, and how far the exact one lies from it at most. All sums go in ascending order.
 use Rattle.std.specs.Prelude.{ℕ, ◌+◌, ◌-◌, ◌*◌, ◌^◌, List, [], ◌∷◌, length, slice_get, nat_le, Option, Some, None, Result, Ok, Err, if◌then◌else◌}
+use Rattle.exact_algebra.specs.Ratio.{Ratio}
 use Rattle.complex_interval.specs.Ends.{Ends}
 use Rattle.complex_interval.specs.Rectangles.{Rectangle, add_rectangles, sub_rectangles, mul_rectangles}
 use Rattle.network_theory.specs.Network.{Network}
@@ -14,7 +15,7 @@ use Rattle.admittance_box.specs.Orders.{order_ends}
 use Rattle.admittance_box.specs.Steps.{◌>>=◌}
 use Rattle.branchwise_test.specs.declared.fault.BranchwiseFault.{BranchwiseFault}
 use Rattle.branchwise_test.specs.declared.fault.BranchwiseFault.TheVariants.{NoInverse, NotContracting, OutOfRange}
-use Rattle.branchwise_test.specs.Drops.{DropEnds, LiveBranch, node_drops, live_branches, with_branches, with_middles}
+use Rattle.branchwise_test.specs.Drops.{DropEnds, LiveBranch, node_drops, live_branches, with_extra_branch, with_branches, with_middles}
 use Rattle.branchwise_test.specs.Sizes.{drop_over, all_voltages, kept_size, bounds_of}
 use Rattle.branchwise_test.specs.Reach.{Contraction, contraction}
 
@@ -108,7 +109,11 @@ near_of_drops s n drops = valued (with_middles s drops (nought_rows n)) (λ ps. 
 unfoldable pub near_of : ℕ → Ends → List DropEnds → List LiveBranch → Result Near BranchwiseFault
 near_of s h nodes branches = valued (with_branches s h branches nodes) (near_of_drops s (length nodes))
 
--- of a pair of networks over the orders from lo to hi, in micro-orders, with the nodes in this ordering, the driven one last
-unfoldable pub impedance_near : ℕ → Network → Network → List ℕ → ℕ → ℕ → Result Near BranchwiseFault
-impedance_near s low high ordering lo hi =
-    valued (node_drops s 0 (length ordering)) (λ nodes. valued (live_branches s ordering low.branches high.branches) (near_of s (order_ends s lo hi) nodes))
+-- by so many nodes, the last of them driven, and their live branches, if these have intervals: with an extra susceptance e there, over the orders from lo to hi, in micro-orders
+abbrev pub near_of_branches : ℕ → ℕ → Option (List LiveBranch) → Ratio → ℕ → ℕ → Result Near BranchwiseFault
+near_of_branches s count branches e lo hi =
+    valued (node_drops s 0 count) (λ nodes. valued (branches >>= with_extra_branch s (count - 1) e) (near_of s (order_ends s lo hi) nodes))
+
+-- of a pair of networks with the nodes in this ordering
+unfoldable pub impedance_near_with : ℕ → Network → Network → List ℕ → Ratio → ℕ → ℕ → Result Near BranchwiseFault
+impedance_near_with s low high ordering e lo hi = near_of_branches s (length ordering) (live_branches s ordering low.branches high.branches) e lo hi

@@ -10,8 +10,9 @@ mod fault;
 
 pub use fault::BranchwiseFault;
 
-/// An estimate over a box of orders holds: for every network between the pair and every order of the box, the driving-point
-/// impedance exists, is the only one, and lies within the error of a number that the estimate holds.
+/// An estimate over a box of orders holds: for every network between the pair, with the extra susceptance at the driven node where it
+/// is above 0, and every order of the box, the driving-point impedance exists, is the only one, and lies within the error of a number
+/// that the estimate holds.
 pub fn impedance_is_near()
     ensures law { (s : ℕ) → ImpedanceIsNear s }
 {}

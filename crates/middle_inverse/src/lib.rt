@@ -10,5 +10,5 @@ mod writing;
 
 pub use bench::MiddleInverse;
 pub use fault::InverseFault;
-pub use point::{nought_point, size_of};
+pub use point::{middle_point, nought_point, size_of};
 pub use writing::write_unit;

@@ -1,4 +1,4 @@
-use Rattle.branchwise_test.proofs.Main.{impedance_is_near}
+use Rattle.branchwise_test.proofs.Extra.{impedance_is_near}
 use Rattle.branchwise_test.proofs.impedance_is_near.Goals as goal
 
 pub returns : goal.returns

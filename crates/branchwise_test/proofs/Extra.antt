@@ -1,0 +1,149 @@
+-- An estimate over a box holds with an extra susceptance at the driven node.
+use Rattle.std.proofs.Common.{◌≡◌, ◌∙◌, ℕ, zero, suc, ◌+◌, ◌-◌, ◌<◌, Bool, true, false, List, [], ◌∷◌, ◌++◌, length, refl, sym, subst, ap, arith, pos, Option, Some, None, Result, Ok}
+use Rattle.std.specs.Prelude.{int_lt, is_some, ◌||◌, if◌then◌else◌}
+use Rattle.std.specs.List.{AllZip, AllByRecursion}
+use Rattle.std.specs.Option.{option_map}
+use Rattle.exact_algebra.specs.Ratio.{Ratio, whole}
+use Rattle.complex_interval.specs.Ends.{Ends, range_ends}
+use Rattle.network_theory.specs.Branch.{Branch}
+use Rattle.network_theory.specs.Network.{Network, IsUncoupled, IsGrouped, done, alone, IsWhole}
+use Rattle.network_theory.specs.Between.{BranchUpTo, IsPair, LiesBetween}
+use Rattle.network_theory.specs.Extra.{shunt_at, with_shunt}
+use Rattle.network_theory.proofs.Extra as E
+use Rattle.network_theory.proofs.More.{up_to}
+use Rattle.network_theory.proofs.Phases.{live_is_node}
+use Rattle.admittance_box.specs.Addends.{LawEnds, OfShunt, PlacedTap, tap_pairs, has_place}
+use Rattle.admittance_box.specs.HeldMatrix.{CanAssemble}
+use Rattle.admittance_box.specs.Orders.{order_ends}
+use Rattle.admittance_box.specs.Places.{place_of}
+use Rattle.admittance_box.specs.Steps.{◌>>=◌}
+use Rattle.admittance_box.proofs.HeldMatrices.{uncoupled_up}
+use Rattle.admittance_box.proofs.LivePairs.{live_up}
+use Rattle.admittance_box.proofs.NodeOrderings.{is_last, lists_live, order_along}
+use Rattle.admittance_box.proofs.Steps.{bind-some}
+use Rattle.branchwise_test.specs.Drops.{DropEnds, LiveBranch, node_drops, live_branch, live_branches, extra_branch}
+use Rattle.branchwise_test.specs.Enclosed.{valued, Near, near_of, impedance_near_with}
+use Rattle.branchwise_test.specs.Holds.{IsNear, ImpedanceIsNear}
+use Rattle.branchwise_test.proofs.Zips.{zip_end, each_at}
+use Rattle.branchwise_test.proofs.Branches.{places_are}
+use Rattle.branchwise_test.proofs.Main.{valued-ok, live_near}
+
+all_end : {X : Type 0} (P : X → Type 0) (xs : List X) (x : X) → AllByRecursion P xs → P x → AllByRecursion P (xs ++ x ∷ [])
+all_end P [] x a p = (p, tt)
+all_end P (y ∷ xs) x a p = (a.0, all_end P xs x a.1 p)
+
+-- uncoupled branches are grouped
+grouped : (bs : List Branch) → AllByRecursion IsUncoupled bs → IsGrouped bs
+grouped [] u = done
+grouped (b ∷ bs) u = alone b bs u.0 (grouped bs u.1)
+
+uncoupled_pair : (ls bs : List Branch) → AllZip BranchUpTo ls bs → AllByRecursion IsUncoupled ls → AllByRecursion IsUncoupled bs
+uncoupled_pair [] [] z u = tt
+uncoupled_pair [] (b ∷ bs) z u = absurd z
+uncoupled_pair (l ∷ ls) [] z u = absurd z
+uncoupled_pair (l ∷ ls) (b ∷ bs) z u = (uncoupled_up l b z.0 u.0, uncoupled_pair ls bs z.1 u.1)
+
+-- ---- a pair with the shunt
+module _ (driven : ℕ) (e : Ratio) where
+  abbrev shunted : Network → Network
+  shunted network = with_shunt network driven e
+
+  shunt_up_to : BranchUpTo (shunt_at driven e) (shunt_at driven e)
+  shunt_up_to = record { taps = (record { node = refl; ratio = up_to (whole (pos 1)) }, tt); law = up_to e; group = refl; owner = refl }
+
+  pair_shunted : (low high : Network) → IsPair low high → IsPair (shunted low) (shunted high)
+  pair_shunted low high p = record { buses = p.buses; nodes = p.nodes; branches = zip_end BranchUpTo low.branches high.branches (shunt_at driven e) (shunt_at driven e) p.branches shunt_up_to }
+
+  can_shunted : (low high : Network) (ordering : List ℕ) → CanAssemble low high driven ordering → CanAssemble (shunted low) (shunted high) driven ordering
+  can_shunted low high ordering can =
+      record {
+        pair = pair_shunted low high can.pair;
+        no_group = all_end IsUncoupled low.branches (shunt_at driven e) can.no_group refl;
+        driven_is_live = E.live_up low driven e driven can.driven_is_live;
+        ordered = record {
+          live = can.ordered.live;
+          right = λ n. (λ t. E.live_up low driven e n ((can.ordered.right n).0 t), λ l. (can.ordered.right n).1 (E.live_down low driven e can.driven_is_live n l));
+          same = can.ordered.same;
+        };
+      }
+
+  between_shunted : (network low high : Network) (ordering : List ℕ) → CanAssemble low high driven ordering → LiesBetween network low high → LiesBetween (shunted network) (shunted low) (shunted high)
+  between_shunted network low high ordering can between =
+      record {
+        whole = record {
+          buses = between.whole.buses;
+          taps = all_end (λ (b : Branch). AllByRecursion (λ t. t.node < network.nodes) b.taps) network.branches (shunt_at driven e) between.whole.taps (live_is_node network between.whole driven (live_up low network between.from_low driven can.driven_is_live), tt);
+          groups = grouped (network.branches ++ shunt_at driven e ∷ []) (all_end IsUncoupled network.branches (shunt_at driven e) (uncoupled_pair low.branches network.branches between.from_low.branches can.no_group) refl);
+        };
+        from_low = pair_shunted low network between.from_low;
+        to_high = pair_shunted network high between.to_high;
+      }
+
+  -- ---- its live branches
+  module _ (s : ℕ) (ordering : List ℕ) (k : ℕ) (place : place_of ordering driven ≡ Some k) where
+    shunt_live : (extra : LiveBranch) → extra_branch s k e ≡ Some extra → live_branch s ordering (shunt_at driven e) (shunt_at driven e) ≡ Some extra
+    shunt_live extra q = rw place (go (range_ends s e e) (range_ends s (whole (pos 1)) (whole (pos 1))) q)
+      where
+        go : (o p : Option Ends) → (o >>= (λ b. p >>= (λ one. tap_pairs s ((record { place = k; ratio = one } ∷ [])) ((record { place = k; ratio = one } ∷ [])) >>= (λ pairs. Some (record { law = OfShunt b; taps = (record { place = k; ratio = one } ∷ []); pairs = pairs }))))) ≡ Some extra
+            → (option_map OfShunt o >>= (λ law. ((p >>= (λ one. Some (record { place = k; ratio = one }))) >>= (λ tap. Some (tap ∷ []))) >>= (λ taps. tap_pairs s taps taps >>= (λ pairs. Some (record { law = law; taps = taps; pairs = pairs }))))) ≡ Some extra
+        go None p n = absurd cc
+        go (Some b) None n = absurd cc
+        go (Some b) (Some one) n = n
+
+    live_shunted : (ls hs : List Branch) → AllZip BranchUpTo ls hs → (branches : List LiveBranch) → live_branches s ordering ls hs ≡ Some branches → (extra : LiveBranch) → extra_branch s k e ≡ Some extra
+        → live_branches s ordering (ls ++ shunt_at driven e ∷ []) (hs ++ shunt_at driven e ∷ []) ≡ Some (branches ++ extra ∷ [])
+    live_shunted [] [] z branches m extra q =
+        let none : [] ≡ branches = cc in
+        subst (λ l. live_branches s ordering (shunt_at driven e ∷ []) (shunt_at driven e ∷ []) ≡ Some (l ++ extra ∷ [])) none (last (has_place ordering (shunt_at driven e).taps) here (live_branch s ordering (shunt_at driven e) (shunt_at driven e)) (shunt_live extra q))
+      where
+        here : has_place ordering (shunt_at driven e).taps ≡ true
+        here = rw place refl
+
+        last : (t : Bool) → t ≡ true → (o : Option LiveBranch) → o ≡ Some extra → (if t then o >>= (λ l. Some (l ∷ [])) else Some []) ≡ Some (extra ∷ [])
+        last true t (Some l) n = let is : l ≡ extra = cc in ap (λ b. Some (b ∷ [])) is
+        last true t None n = absurd cc
+        last false t o n = absurd cc
+    live_shunted [] (c ∷ hs) z branches m extra q = absurd z
+    live_shunted (l ∷ ls) [] z branches m extra q = absurd z
+    live_shunted (l ∷ ls) (c ∷ hs) z branches m extra q = go (has_place ordering l.taps) refl m (λ rest r. live_shunted ls hs z.1 rest r extra q)
+      where
+        both : (o : Option LiveBranch) (r r' : Option (List LiveBranch)) → (o >>= (λ x. r >>= (λ xs. Some (x ∷ xs)))) ≡ Some branches → ((rest : List LiveBranch) → r ≡ Some rest → r' ≡ Some (rest ++ extra ∷ []))
+            → (o >>= (λ x. r' >>= (λ xs. Some (x ∷ xs)))) ≡ Some (branches ++ extra ∷ [])
+        both None r r' m more = absurd cc
+        both (Some x) None r' m more = absurd cc
+        both (Some x) (Some xs) r' m more = let is : x ∷ xs ≡ branches = cc in rw (more xs refl) (ap (λ bs. Some (bs ++ extra ∷ [])) is)
+
+        go : (t : Bool) → has_place ordering l.taps ≡ t → (if t then live_branch s ordering l c >>= (λ o. live_branches s ordering ls hs >>= (λ os. Some (o ∷ os))) else live_branches s ordering ls hs) ≡ Some branches
+            → ((rest : List LiveBranch) → live_branches s ordering ls hs ≡ Some rest → live_branches s ordering (ls ++ shunt_at driven e ∷ []) (hs ++ shunt_at driven e ∷ []) ≡ Some (rest ++ extra ∷ []))
+            → live_branches s ordering (l ∷ ls ++ shunt_at driven e ∷ []) (c ∷ hs ++ shunt_at driven e ∷ []) ≡ Some (branches ++ extra ∷ [])
+        go true t m more = rw t (both (live_branch s ordering l c) (live_branches s ordering ls hs) (live_branches s ordering (ls ++ shunt_at driven e ∷ []) (hs ++ shunt_at driven e ∷ [])) m more)
+        go false t m more = rw t (more branches m)
+
+-- ---- the whole
+pub impedance_is_near : (s : ℕ) → ImpedanceIsNear s
+unfolding impedance_near_with
+impedance_is_near s low high driven ordering can e lo hi near q h is_order lies network between =
+    let (nodes, e0, n0) = valued-ok _ _ near q in
+    let (all, e1, n1) = valued-ok _ _ near n0 in
+    let (branches, e2, n2) = bind-some _ _ all e1 in
+    go (int_lt (pos 0) e.num) nodes e0 branches e2 all n2 n1
+  where
+    place : place_of ordering driven ≡ Some (length ordering - 1)
+    place =
+        let (n, last) = is_last low driven ordering can.ordered in
+        let here : n ≡ length ordering - 1 = let c = last.count in omega (arith, c) in
+        let listed = lists_live network driven ordering between.whole (live_up low network between.from_low driven can.driven_is_live) (order_along low network driven ordering between.from_low can.ordered) in
+        subst (λ i. place_of ordering driven ≡ Some i) here (subst (λ m. place_of ordering m ≡ Some n) last.last (each_at (λ i m. place_of ordering m ≡ Some i) 0 ordering n (let c = last.count in omega (arith, c)) (places_are ordering listed.distinct)))
+
+    go : (t : Bool) (nodes : List DropEnds) → node_drops s 0 (length ordering) ≡ Some nodes → (branches : List LiveBranch) → live_branches s ordering low.branches high.branches ≡ Some branches
+        → (all : List LiveBranch) → (if t then extra_branch s (length ordering - 1) e >>= (λ extra. Some (branches ++ extra ∷ [])) else Some branches) ≡ Some all
+        → near_of s (order_ends s lo hi) nodes all ≡ Ok near → IsNear s (if t then with_shunt network driven e else network) h driven near
+    go true nodes e0 branches e2 all m n =
+        let (extra, e3, n3) = bind-some _ _ all m in
+        let is : branches ++ extra ∷ [] ≡ all = cc in
+        live_near s (shunted driven e low) (shunted driven e high) driven ordering (can_shunted driven e low high ordering can) lo hi near nodes e0 all
+        (subst (λ bs. live_branches s ordering (low.branches ++ shunt_at driven e ∷ []) (high.branches ++ shunt_at driven e ∷ []) ≡ Some bs) is (live_shunted driven e s ordering (length ordering - 1) place low.branches high.branches can.pair.branches branches e2 extra e3)) n h is_order lies
+        (shunted driven e network) (between_shunted driven e network low high ordering can between)
+    go false nodes e0 branches e2 all m n =
+        let is : branches ≡ all = cc in
+        live_near s low high driven ordering can lo hi near nodes e0 all (subst (λ bs. live_branches s ordering low.branches high.branches ≡ Some bs) is e2) n h is_order lies network between
