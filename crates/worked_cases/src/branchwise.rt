@@ -7,8 +7,7 @@ source = [{ name = "S1", bus = "B1", r = 0, x = 1 }]
 scan = [{ name = "s1", bus = "B1", from = 1, to = 10, threshold = 20, finest = "0.001" }]
 "#;
 
-pub const COIL_BELOW_REPORT: &str =
-    r"scan,s1,B1,positive,1.000000,10.000000,20.000000,branchwise
+pub const COIL_BELOW_REPORT: &str = r"scan,s1,B1,positive,1.000000,10.000000,20.000000,branchwise
 box,1,1.000000,10.000000,cleared,-,-
 summary,s1,1,1,0,0,0
 end,0
@@ -21,8 +20,7 @@ source = [{ name = "S1", bus = "B1", r = 0, x = 1 }]
 scan = [{ name = "s1", bus = "B1", from = 1, to = 10, threshold = "0.5", finest = "0.001", locate = 5 }]
 "#;
 
-pub const COIL_ABOVE_REPORT: &str =
-    r"scan,s1,B1,positive,1.000000,10.000000,0.500000,branchwise
+pub const COIL_ABOVE_REPORT: &str = r"scan,s1,B1,positive,1.000000,10.000000,0.500000,branchwise
 box,1,1.000000,5.500000,peak,3.250000,3.249999
 box,2,5.500000,10.000000,peak,7.750000,7.749999
 region,1,1.000000,10.000000,50.000000,500.000000,2,0,7.750000,7.749999
@@ -37,8 +35,7 @@ source = [{ name = "S1", bus = "B1", r = 0, x = 1 }]
 scan = [{ name = "s1", bus = "B1", from = 1, to = 9, threshold = 5, finest = 1 }]
 "#;
 
-pub const COIL_CROSSING_REPORT: &str =
-    r"scan,s1,B1,positive,1.000000,9.000000,5.000000,branchwise
+pub const COIL_CROSSING_REPORT: &str = r"scan,s1,B1,positive,1.000000,9.000000,5.000000,branchwise
 box,1,1.000000,3.000000,cleared,-,-
 box,2,3.000000,4.000000,cleared,-,-
 box,3,4.000000,5.000000,undecided,-,-
@@ -59,8 +56,7 @@ bank = [{ name = "K1", bus = "B1", q = 4 }]
 scan = [{ name = "s1", bus = "B1", from = 3, to = 7, threshold = 20, finest = "0.125", locate = "0.5" }]
 "#;
 
-pub const RESONANCE_REPORT: &str =
-    r"scan,s1,B1,positive,3.000000,7.000000,20.000000,branchwise
+pub const RESONANCE_REPORT: &str = r"scan,s1,B1,positive,3.000000,7.000000,20.000000,branchwise
 box,1,3.000000,4.000000,cleared,-,-
 box,2,4.000000,4.500000,peak,4.500000,23.584458
 box,3,4.500000,5.000000,peak,4.750000,47.829051
@@ -80,8 +76,7 @@ bank = [{ name = "K1", bus = "B1", q = 4 }]
 scan = [{ name = "s1", bus = "B1", from = "4.1", to = "6.3", threshold = 1000, finest = "0.01", locate = "0.03" }]
 "#;
 
-pub const SHARP_REPORT: &str =
-    r"scan,s1,B1,positive,4.100000,6.300000,1000.000000,branchwise
+pub const SHARP_REPORT: &str = r"scan,s1,B1,positive,4.100000,6.300000,1000.000000,branchwise
 box,1,4.100000,4.650000,cleared,-,-
 box,2,4.650000,4.925000,cleared,-,-
 box,3,4.925000,4.959375,cleared,-,-
@@ -105,8 +100,7 @@ filter = [{ name = "F1", bus = "B1", kind = "single", q = 4, order = 5, quality 
 scan = [{ name = "s1", bus = "B1", from = "4.8", to = "5.2", threshold = 2, finest = "0.001" }, { name = "s2", bus = "B1", from = "3.4", to = "3.6", threshold = 20, finest = "0.001", locate = "0.2" }]
 "#;
 
-pub const FILTERED_REPORT: &str =
-    r"scan,s1,B1,positive,4.800000,5.200000,2.000000,branchwise
+pub const FILTERED_REPORT: &str = r"scan,s1,B1,positive,4.800000,5.200000,2.000000,branchwise
 box,1,4.800000,5.200000,cleared,-,-
 summary,s1,1,1,0,0,0
 scan,s2,B1,positive,3.400000,3.600000,20.000000,branchwise
@@ -125,8 +119,7 @@ bank = [{ name = "K1", bus = "A", q = 4 }]
 scan = [{ name = "s1", bus = "K", from = "4.99", to = "5.01", threshold = 20, finest = "0.02" }]
 "#;
 
-pub const FAR_REPORT: &str =
-    r"scan,s1,K,positive,4.990000,5.010000,20.000000,branchwise
+pub const FAR_REPORT: &str = r"scan,s1,K,positive,4.990000,5.010000,20.000000,branchwise
 box,1,4.990000,5.010000,cleared,-,-
 summary,s1,1,1,0,0,0
 end,0
@@ -138,8 +131,7 @@ pub const PLANT_HEADERS: [&str; 2] = [
     "study = { version = 1, mva = 100, scale = 48, method = \"branchwise\" }\n",
 ];
 
-pub const PLANT_REPORT: &str =
-    r"scan,s1,F3,positive,1.000000,50.000000,400.000000,branchwise
+pub const PLANT_REPORT: &str = r"scan,s1,F3,positive,1.000000,50.000000,400.000000,branchwise
 box,1,1.000000,1.765625,cleared,-,-
 box,2,1.765625,2.531250,cleared,-,-
 box,3,2.531250,4.062500,cleared,-,-
