@@ -1,5 +1,5 @@
 -- The branch-wise part is sound.
-use Rattle.std.proofs.Common.{◌≡◌, ℕ, ◌+◌, ◌-◌, ◌*◌, ◌^◌, ◌≤◌, ℤ, pos, true, Option, Some, None, Result, Ok, Err, refl, sym, subst, arith, [], ◌∷◌}
+use Rattle.std.proofs.Common.{◌≡◌, ℕ, ◌+◌, ◌-◌, ◌*◌, ◌≤◌, ℤ, true, Option, Some, Result, Ok, Err, refl, sym, subst, arith, [], ◌∷◌}
 use Rattle.exact_algebra.specs.Ratio.{Ratio, ◌≈◌, ◌≼◌, plus, times, opposite}
 use Rattle.exact_algebra.specs.Complex.{Complex, square_size}
 use Rattle.exact_algebra.proofs.Reader.{reads, linear, weigh, none_left}
@@ -13,7 +13,6 @@ use Rattle.certified_inverse.proofs.Raw.{raw, raw-plus, raw-not_negative, raw-mo
 use Rattle.network_theory.specs.Order.{Order}
 use Rattle.network_theory.specs.Network.{Network}
 use Rattle.network_theory.specs.Scanned.{micro}
-use Rattle.branchwise_laws.specs.Near.{IsAtMost as IsAtMostSize, IsAtLeast as IsAtLeastSize}
 use Rattle.branchwise_laws.specs.Wholes.{units}
 use Rattle.branchwise_laws.proofs.Near.{near_at_most, near_at_least}
 use Rattle.branchwise_test.specs.Enclosed.{Near}
@@ -25,7 +24,6 @@ use Rattle.band_subdivision.specs.BranchwisePart.{is_within_near, ohms_over_near
 use Rattle.band_subdivision.specs.Levels.{Levels}
 use Rattle.band_subdivision.specs.Truth.{scanned_by, IsTruePeak, BranchwisePartIsSound}
 use Rattle.band_subdivision.proofs.BySize.{IsAtMost, at_most_parts, IsBeyond, beyond_parts, cleared_by, peak_by}
-use Rattle.band_subdivision.proofs.Comparisons.{one}
 use Rattle.band_subdivision.proofs.Lifts.{clear_with, peak_with}
 use Rattle.band_subdivision.proofs.Sound.{micro_is_order, micro_inside}
 use Rattle.band_subdivision.proofs.TestSteps.{root_floor_square}

@@ -1,5 +1,5 @@
 -- What the size of an impedance, in units of 1 / 2^scale, says of a threshold.
-use Rattle.std.proofs.Common.{◌≡◌, ap, ℕ, ◌+◌, ◌-◌, ◌*◌, ◌^◌, ◌≤◌, ◌<◌, ℤ, pos, ◌≤ℤ◌, ◌*ℤ◌, unsigned_abs, Bool, true, false, Option, Some, None, refl, sym, arith, [], ◌∷◌}
+use Rattle.std.proofs.Common.{◌≡◌, ℕ, ◌+◌, ◌-◌, ◌*◌, ◌^◌, ◌≤◌, ◌<◌, ℤ, pos, ◌≤ℤ◌, ◌*ℤ◌, unsigned_abs, Bool, true, false, Option, Some, None, refl, sym, arith, [], ◌∷◌}
 use Rattle.std.specs.Prelude.{nat_lt, int_le, if◌then◌else◌}
 use Rattle.std.proofs.lemmas.Bool.Decides.{nat_tests}
 use Rattle.std.proofs.lemmas.Int.{ints}

@@ -1,9 +1,9 @@
 -- The least size of a number of an estimate is below 2^63: the ends of the estimate are in range.
-use Rattle.std.proofs.Common.{◌≡◌, ℕ, ◌+◌, ◌^◌, ◌≤◌, ◌<◌, ◌-◌, ◌*◌, ℤ, ◌-ℤ◌, unsigned_abs, Bool, true, false, nat_le, List, length, slice_get, Option, Some, None, Result, Ok, Err, refl, subst, arith}
+use Rattle.std.proofs.Common.{◌≡◌, ℕ, ◌+◌, ◌^◌, ◌≤◌, ◌<◌, ◌-◌, ◌*◌, ◌-ℤ◌, unsigned_abs, Bool, true, false, nat_le, List, length, slice_get, Option, Some, None, Result, Ok, Err, refl, subst, arith}
 use Rattle.std.specs.Prelude.{if◌then◌else◌, ◌&&◌}
 use Rattle.std.proofs.lemmas.Bool.Decides.{nat_tests}
 use Rattle.exact_algebra.specs.Ratio.{Ratio}
-use Rattle.complex_interval.specs.Ends.{Ends, is_end, ends_in_range, sub_ends}
+use Rattle.complex_interval.specs.Ends.{Ends, is_end, sub_ends}
 use Rattle.complex_interval.specs.Rectangles.{Rectangle, both_parts, sub_rectangles, low_square_sum}
 use Rattle.network_theory.specs.Network.{Network}
 use Rattle.plain_elimination.specs.Matrix.{nought_rectangle}
@@ -16,7 +16,7 @@ use Rattle.admittance_box.specs.Orders.{order_ends}
 use Rattle.admittance_box.specs.Steps.{◌>>=◌}
 use Rattle.branchwise_test.specs.Drops.{DropEnds, LiveBranch, node_drops, live_branches, with_extra_branch, with_branches, with_middles}
 use Rattle.branchwise_test.specs.Reach.{Contraction}
-use Rattle.branchwise_test.specs.Enclosed.{Near, Found, valued, correction, near_by, contracting, near_with, by_inverse, near_of_drops, near_of, impedance_near_with}
+use Rattle.branchwise_test.specs.Enclosed.{Near, Found, valued, correction, near_by, contracting, by_inverse, near_of_drops, near_of, impedance_near_with}
 use Rattle.branchwise_test.specs.declared.fault.BranchwiseFault.{BranchwiseFault}
 use Rattle.branchwise_test.specs.declared.fault.BranchwiseFault.TheVariants.{NotContracting}
 use Rattle.band_subdivision.proofs.TestSteps.{low_square_fits}

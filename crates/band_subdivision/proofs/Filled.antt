@@ -3,7 +3,6 @@ use Rattle.std.proofs.Common.{◌≡◌, ◌∙◌, ℕ, zero, suc, ◌-◌, ◌
 use Rattle.std.specs.Prelude.{◌&&◌, ◌||◌, if◌then◌else◌, is_some}
 use Rattle.std.proofs.lemmas.Bool.Decides.{nat_tests}
 use Rattle.exact_algebra.specs.Ratio.{Ratio}
-use Rattle.network_theory.specs.Network.{Network}
 use Rattle.complex_interval.specs.Ends.{Ends, range_ends}
 use Rattle.complex_interval.specs.Rectangles.{Rectangle}
 use Rattle.plain_elimination.specs.Matrix.{entry, set_entry}
@@ -21,7 +20,7 @@ use Rattle.band_subdivision.specs.IntervalTest.{clear_bound, above_bound, is_cle
 use Rattle.band_subdivision.specs.InverseTest.{most_within, least_above, is_within_by, ohms_over_by, inverse_test}
 use Rattle.band_subdivision.specs.BranchwisePart.{is_within_near, ohms_over_near, branchwise_part}
 use Rattle.band_subdivision.specs.Levels.{Levels}
-use Rattle.band_subdivision.specs.Parts.{or_else, is_near, where_near, nowhere, second_part}
+use Rattle.band_subdivision.specs.Parts.{or_else, where_near, nowhere, second_part}
 use Rattle.band_subdivision.specs.PairTest.{Asked, with_extra, value_with, pair_value, with_last, last_enclosure, enclosure_with, pair_enclosure, pair_test}
 use Rattle.band_subdivision.specs.Testing.{bench_for}
 use Rattle.band_subdivision.specs.declared.second_bench.SecondBench.{SecondBench}

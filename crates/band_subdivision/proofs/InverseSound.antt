@@ -1,10 +1,10 @@
 -- The inverse part is sound.
-use Rattle.std.proofs.Common.{◌≡◌, ap, ℕ, suc, ◌+◌, ◌-◌, ◌*◌, ◌^◌, ◌≤◌, ◌<◌, ℤ, pos, negsuc, ◌≤ℤ◌, ◌+ℤ◌, ◌*ℤ◌, unsigned_abs, nat_abs, Bool, true, false, Option, Some, None, refl, sym, subst, arith, [], ◌∷◌}
+use Rattle.std.proofs.Common.{◌≡◌, ap, ℕ, suc, ◌+◌, ◌-◌, ◌*◌, ◌^◌, ◌≤◌, ◌<◌, ℤ, pos, negsuc, ◌≤ℤ◌, ◌+ℤ◌, ◌*ℤ◌, unsigned_abs, nat_abs, Bool, true, false, Option, Some, refl, sym, subst, arith, [], ◌∷◌}
 use Rattle.std.specs.Prelude.{nat_le}
 use Rattle.std.proofs.lemmas.Bool.Decides.{nat_tests}
 use Rattle.std.proofs.lemmas.Int.{ints}
 use Rattle.std.proofs.lemmas.Nat.{mul-le, pow_pos}
-use Rattle.exact_algebra.specs.Ratio.{Ratio, den, over, ◌≈◌, ◌≼◌, plus, times, opposite, difference, magnitude, whole, reciprocal}
+use Rattle.exact_algebra.specs.Ratio.{Ratio, den, over, ◌≈◌, ◌≼◌, plus, times, opposite, difference, magnitude}
 use Rattle.exact_algebra.specs.Complex.{Complex, complex_over, complex_difference, complex_size, real_part, imaginary_part, square_size}
 use Rattle.exact_algebra.proofs.Complexes.{re-complex_difference, im-complex_difference}
 use Rattle.exact_algebra.proofs.Reader.{reads, linear, weigh, join, none_left}

@@ -1,5 +1,5 @@
 -- What is true of the boxes of a scan.
-use Rattle.std.specs.Prelude.{◌≡◌, ℕ, ◌-◌, ◌^◌, ◌≤◌, ◌<◌, ℤ, pos, negsuc, Bool, true, false, Option, Some, Result, Ok}
+use Rattle.std.specs.Prelude.{◌≡◌, ℕ, ◌-◌, ◌^◌, ◌≤◌, ◌<◌, ℤ, pos, negsuc, true, false, Option, Some, Result, Ok}
 use Rattle.std.specs.List.{AllByRecursion}
 use Rattle.exact_algebra.specs.Ratio.{Ratio, over}
 use Rattle.exact_algebra.specs.Complex.{Complex, complex_difference, complex_over}
