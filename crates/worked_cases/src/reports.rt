@@ -1,6 +1,8 @@
 // Reports, through the program.
-use crate::answers::{assert_long_report, assert_reports, joined};
-use crate::{curves, examples, networks, recipes, studies};
+use crate::answers::{
+    Answer, SCAN, assert_answer, assert_long_report, assert_reports, joined, shelf_with,
+};
+use crate::{branchwise, curves, examples, networks, recipes, studies};
 use std::test::Fail;
 
 #[test]
@@ -61,6 +63,17 @@ fn reports(rt: HostRuntime) -> Result<(), Fail> {
         (recipes::ZERO, recipes::ZERO_REPORT, 3),
         (recipes::OPEN, recipes::OPEN_REPORT, 4),
         (recipes::BRANCHWISE, recipes::BRANCHWISE_REPORT, 0),
+        (branchwise::COIL_BELOW, branchwise::COIL_BELOW_REPORT, 0),
+        (branchwise::COIL_ABOVE, branchwise::COIL_ABOVE_REPORT, 3),
+        (
+            branchwise::COIL_CROSSING,
+            branchwise::COIL_CROSSING_REPORT,
+            3,
+        ),
+        (branchwise::RESONANCE, branchwise::RESONANCE_REPORT, 3),
+        (branchwise::SHARP, branchwise::SHARP_REPORT, 3),
+        (branchwise::FILTERED, branchwise::FILTERED_REPORT, 3),
+        (branchwise::FAR, branchwise::FAR_REPORT, 0),
         (curves::LEVEL, curves::LEVEL_REPORT, 0),
         (curves::RISING, curves::RISING_REPORT, 0),
     ];
@@ -83,11 +96,22 @@ fn an_industrial_plant(rt: HostRuntime) -> Result<(), Fail> {
     Ok(())
 }
 
-/// The report has 4416 lines, of which the first and the last ones are compared, and its length.
+// Elimination leaves 16 of 534 boxes of the industrial plant undecided, branch by branch none is. Of the plant's report, which has 120
+// lines, the first and the last ones are compared, and its length.
 #[test]
-fn the_plant(rt: HostRuntime) -> Result<(), Fail> {
+fn plants_branch_by_branch(rt: HostRuntime) -> Result<(), Fail> {
+    let answer = Answer {
+        status: 0,
+        out: branchwise::PLANT_REPORT,
+        err: "",
+    };
+    for header in branchwise::PLANT_HEADERS {
+        let study = joined(rt.alloc(), &[header, networks::INDUSTRIAL])?;
+        let mut shelf = shelf_with(rt.alloc(), study.as_bytes())?;
+        assert_answer(&rt, rt.alloc(), &SCAN, &mut shelf, &answer)?;
+    }
     let ends = (examples::PLANT_FRONT, examples::PLANT_END);
     let length = assert_long_report(&rt, rt.alloc(), examples::PLANT, ends, 3)?;
-    assert_eq!(rt; length, 171_062);
+    assert_eq!(rt; length, 5_026);
     Ok(())
 }
