@@ -18,7 +18,7 @@ use Rattle.harmscan_core.specs.declared.counts.Tally.{Tally}
 use Rattle.harmscan_core.specs.declared.region.Region.{Region}
 use Rattle.harmscan_core.specs.declared.region.Summit.{Summit}
 use Rattle.harmscan_core.specs.Regions.{is_cleared, is_peak, is_undecided, count_of, Part, cleared, region, before_parts, parts_of, is_region, summit_with, summit_of, last_end, region_of, row_of_region}
-use Rattle.harmscan_core.specs.Report.{row_of, box_rows, rows_of_parts, summary_of, some_box}
+use Rattle.harmscan_core.specs.Report.{row_of, box_rows, rows_of_parts, summary_of}
 use Rattle.harmscan_core.specs.Fold.{better, joined, count_more, tally_more, tallied, no_tally, folded_rows, all_regions, folded_summary, found_too, found_in, nothing_found, found_over}
 use Rattle.harmscan_core.specs.Scan.{boxes_in}
 

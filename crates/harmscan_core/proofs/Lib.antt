@@ -1,4 +1,5 @@
 pub mod WordCounts
+pub mod NumberWords
 pub mod Rows
 pub mod Causes
 pub mod Accepted
@@ -10,3 +11,4 @@ pub mod WholeReport
 pub mod Written
 pub mod Plans
 pub mod Folds
+pub mod Drills

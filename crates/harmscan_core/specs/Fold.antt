@@ -110,3 +110,7 @@ found_over study = record { peak = some_box is_peak study; undecided = some_box 
 -- the status by what was found
 abbrev pub status_of : Found → ℕ
 status_of f = if f.peak then 3 else (if f.undecided then 4 else 0)
+
+-- the status of a report of one scan, which has these boxes
+unfoldable pub counted_status : List BoxRow → ℕ
+counted_status boxes = status_of (found_too nothing_found (tallied no_tally boxes).counts)

@@ -11,9 +11,11 @@ use Rattle.study_model.specs.declared.fault.StudyFault.{StudyFault}
 use Rattle.study_model.specs.declared.fault.StudyFault.TheVariants as fault
 use Rattle.sequence_network.specs.Refusals.{IsLiveRefusal}
 use Rattle.harmscan_core.specs.Accepted.{IsAccepted, IsRefused}
-use Rattle.harmscan_core.specs.Report.{report_text, report_status}
+use Rattle.drill_study.specs.Drill.{drill_of}
+use Rattle.harmscan_core.specs.Report.{report_text, report_status, drill_text}
 use Rattle.harmscan_core.specs.Claim.{HoldsOfStudy}
 use Rattle.harmscan_core.specs.Lines.{line_at}
+use Rattle.harmscan_core.specs.Words.{Reading, scan, drill}
 use Rattle.harmscan_core.specs.declared.limits.TheConstants.{LONGEST_FILE}
 use Rattle.harmscan_core.specs.declared.outcome.Outcome.{Outcome}
 use Rattle.harmscan_core.specs.declared.outcome.Outcome.TheVariants as outcome
@@ -73,38 +75,39 @@ ReadsStudy name before now (Err outcome.WordsRefused) = ⊥
 ReadsStudy name before now (Err outcome.WriteFailed) = ⊥
 ReadsStudy name before now (Err (outcome.Written s)) = ⊥
 
--- the report of a study was written whole: all that it claims holds
-pub record IsReported (study : Study) (status : ℕ) (out out' : SinkState) : Type 0 where
+-- a report of a study, which has this text, was written whole: all that it claims holds
+pub record IsReported (study : Study) (text : List ℕ) (status : ℕ) (out out' : SinkState) : Type 0 where
   pub status_is : status ≡ report_status study
-  pub written : out' ≡ took out (report_text study)
+  pub written : out' ≡ took out text
   pub claim : HoldsOfStudy study
 
--- what the writing of a study's report ends with and leaves
-abbrev pub Reports : Study → SinkState → SinkState → Outcome → Type 0
-Reports study out out' (outcome.Written s) = IsReported study s out out'
-Reports study out out' outcome.WriteFailed = FailsToWrite (report_text study) out out'
-Reports study out out' outcome.NoMemory = (out' ≡ out) ⊎ LacksMemory (report_text study) out out'
-Reports study out out' outcome.WordsRefused = ⊥
-Reports study out out' outcome.ReadFailed = ⊥
-Reports study out out' outcome.TooLarge = ⊥
-Reports study out out' (outcome.Refused f) = ⊥
+-- what the writing of a report of a study, which has this text, ends with and leaves
+abbrev pub Reports : Study → List ℕ → SinkState → SinkState → Outcome → Type 0
+Reports study text out out' (outcome.Written s) = IsReported study text s out out'
+Reports study text out out' outcome.WriteFailed = FailsToWrite text out out'
+Reports study text out out' outcome.NoMemory = (out' ≡ out) ⊎ LacksMemory text out out'
+Reports study text out out' outcome.WordsRefused = ⊥
+Reports study text out out' outcome.ReadFailed = ⊥
+Reports study text out out' outcome.TooLarge = ⊥
+Reports study text out out' (outcome.Refused f) = ⊥
 
--- what one run does, for the file that its words name
+-- what a run does that scans the file of this name
 abbrev pub Happens : List ℕ → ShelfState → ShelfState → SinkState → SinkState → Outcome → Type 0
 Happens name shelf shelf' out out' outcome.WordsRefused = ⊥
 Happens name shelf shelf' out out' outcome.ReadFailed = FailsToFetch name shelf shelf' × (out' ≡ out)
 Happens name shelf shelf' out out' outcome.TooLarge = (shelf' ≡ asked_too shelf name) × IfSome (shelf.file name) (λ b. longest_file < length b) × (out' ≡ out)
 Happens name shelf shelf' out out' (outcome.Refused f) = (shelf' ≡ asked_too shelf name) × GivenRefusal (shelf.file name) f × (out' ≡ out)
-Happens name shelf shelf' out out' (outcome.Written s) = (shelf' ≡ asked_too shelf name) × GivenStudy (shelf.file name) (λ study. IsReported study s out out')
+Happens name shelf shelf' out out' (outcome.Written s) = (shelf' ≡ asked_too shelf name) × GivenStudy (shelf.file name) (λ study. IsReported study (report_text study) s out out')
 Happens name shelf shelf' out out' outcome.WriteFailed = (shelf' ≡ asked_too shelf name) × GivenStudy (shelf.file name) (λ study. FailsToWrite (report_text study) out out')
 Happens name shelf shelf' out out' outcome.NoMemory =
     (((shelf' ≡ shelf) ⊎ (shelf' ≡ asked_too shelf name)) × (out' ≡ out))
     ⊎ ((shelf' ≡ asked_too shelf name) × GivenStudy (shelf.file name) (λ study. LacksMemory (report_text study) out out'))
 
--- the same of any words
-abbrev pub HappensFor : Option (List ℕ) → ShelfState → ShelfState → SinkState → SinkState → Outcome → Type 0
+-- What a run does for any words. A drill asks for no file: its report is that of the study of its number.
+abbrev pub HappensFor : Option Reading → ShelfState → ShelfState → SinkState → SinkState → Outcome → Type 0
 HappensFor None shelf shelf' out out' o = (o ≡ outcome.WordsRefused) × (shelf' ≡ shelf) × (out' ≡ out)
-HappensFor (Some name) shelf shelf' out out' o = Happens name shelf shelf' out out' o
+HappensFor (Some (scan name)) shelf shelf' out out' o = Happens name shelf shelf' out out' o
+HappensFor (Some (drill number)) shelf shelf' out out' o = (shelf' ≡ shelf) × Reports (drill_of number) (drill_text number) out out' o
 
 -- the status for an outcome
 abbrev pub status_at : Outcome → ℕ
@@ -122,7 +125,7 @@ Says None before now = now ≡ before
 Says (Some line) before now = (r : Result (Unit {0}) PutFault) × Puts line before now r
 
 -- The whole of a run: one outcome, its status, and its line.
-pub record Runs (words : Option (List ℕ)) (shelf shelf' : ShelfState) (out out' err err' : SinkState) (status : ℕ) : Type 0 where
+pub record Runs (words : Option Reading) (shelf shelf' : ShelfState) (out out' err err' : SinkState) (status : ℕ) : Type 0 where
   pub answer : Outcome
   pub shows : status ≡ status_at answer
   pub happens : HappensFor words shelf shelf' out out' answer
@@ -140,9 +143,10 @@ pub record AsksOnce (name : List ℕ) (before now : ShelfState) : Type 0 where
   pub asked : (now.asked ≡ before.asked) ⊎ (now.asked ≡ before.asked ++ name ∷ [])
   pub file : now.file ≡ before.file
 
-abbrev pub Asks : Option (List ℕ) → ShelfState → ShelfState → Type 0
+abbrev pub Asks : Option Reading → ShelfState → ShelfState → Type 0
 Asks None before now = now ≡ before
-Asks (Some name) before now = AsksOnce name before now
+Asks (Some (scan name)) before now = AsksOnce name before now
+Asks (Some (drill number)) before now = now ≡ before
 
 -- a status that says that the whole report was written
 abbrev pub IsWritten : ℕ → Type 0
@@ -152,20 +156,22 @@ IsWritten status = (status ≡ 0) ⊎ (status ≡ 3) ⊎ (status ≡ 4)
 abbrev pub IsRefusal : ℕ → Type 0
 IsRefusal status = (status ≡ 1) ⊎ (status ≡ 2) ⊎ (status ≡ 5)
 
--- the file that the words name was asked for, and its study's report is written whole, with this status; all that it claims holds
-abbrev pub WritesReport : Option (List ℕ) → ShelfState → ShelfState → SinkState → SinkState → ℕ → Type 0
+-- the file that the words name was asked for, and its study's report is written whole, with this status, or that of a drill; all that it claims holds
+abbrev pub WritesReport : Option Reading → ShelfState → ShelfState → SinkState → SinkState → ℕ → Type 0
 WritesReport None shelf shelf' out out' status = ⊥
-WritesReport (Some name) shelf shelf' out out' status = (shelf' ≡ asked_too shelf name) × GivenStudy (shelf.file name) (λ study. IsReported study status out out')
+WritesReport (Some (scan name)) shelf shelf' out out' status = (shelf' ≡ asked_too shelf name) × GivenStudy (shelf.file name) (λ study. IsReported study (report_text study) status out out')
+WritesReport (Some (drill number)) shelf shelf' out out' status = (shelf' ≡ shelf) × IsReported (drill_of number) (drill_text number) status out out'
 
--- a front of its study's report was taken
-abbrev pub StopsWithin : Option (List ℕ) → ShelfState → SinkState → SinkState → Type 0
+-- a front of the report was taken
+abbrev pub StopsWithin : Option Reading → ShelfState → SinkState → SinkState → Type 0
 StopsWithin None shelf out out' = ⊥
-StopsWithin (Some name) shelf out out' = GivenStudy (shelf.file name) (λ study. FailsToWrite (report_text study) out out')
+StopsWithin (Some (scan name)) shelf out out' = GivenStudy (shelf.file name) (λ study. FailsToWrite (report_text study) out out')
+StopsWithin (Some (drill number)) shelf out out' = FailsToWrite (drill_text number) out out'
 
 -- refused with this outcome's line, or want of memory
 abbrev pub RefusesFor : Outcome → ℕ → SinkState → SinkState → SinkState → SinkState → Type 0
 RefusesFor o status out out' err err' = (status ≡ 7) ⊎ ((status ≡ 2) × (out' ≡ out) × Says (line_at o) err err')
 
--- the whole report and its status, or want of memory
-abbrev pub IsComplete : ℕ → SinkState → SinkState → Study → Type 0
-IsComplete status out out' study = (status ≡ 7) ⊎ IsReported study status out out'
+-- the whole report of a study, which has this text, and its status, or want of memory
+abbrev pub IsComplete : ℕ → SinkState → SinkState → Study → List ℕ → Type 0
+IsComplete status out out' study text = (status ≡ 7) ⊎ IsReported study text status out out'

@@ -15,6 +15,8 @@ use Rattle.study_model.specs.declared.words.Sequence.TheVariants as sequence
 use Rattle.study_model.specs.declared.records.Bus.{Bus}
 use Rattle.study_model.specs.declared.records.ScanItem.{ScanItem}
 use Rattle.study_model.specs.declared.records.Study.{Study}
+use Rattle.sequence_network.specs.Networks.{network_of}
+use Rattle.drill_study.specs.Drill.{drill_scan, drill_of}
 use Rattle.harmscan_core.specs.Regions.{is_cleared, is_peak, is_undecided, count_of, Part, cleared, region, parts_of, is_region, region_of, row_of_region}
 use Rattle.harmscan_core.specs.Scan.{boxes_in}
 
@@ -82,3 +84,15 @@ report_rows study = rows_of_scans study study.scans ++ row.End (report_status st
 -- the bytes of a report
 unfoldable pub report_text : Study → List ℕ
 report_text study = text_of (report_rows study)
+
+-- the rows of a drill: its number and how many nodes its network has, the summary of its scan without the rows of its boxes, and the last row
+abbrev pub drill_rows : ℕ → List Row
+drill_rows number =
+    row.Drill number (network_of (drill_of number) sequence.Positive).nodes
+    ∷ summary_of drill_scan (boxes_in (drill_of number) drill_scan)
+    ∷ row.End (report_status (drill_of number))
+    ∷ []
+
+-- the bytes of a drill's report
+unfoldable pub drill_text : ℕ → List ℕ
+drill_text number = text_of (drill_rows number)

@@ -1,7 +1,7 @@
 -- The texts of the parts of a report, which stay closed where they are put together.
 use Rattle.std.specs.Prelude.{ℕ, ◌+◌, ℤ, List, [], ◌∷◌, ◌++◌, Option}
 use Rattle.scan_report.specs.Rows.{row_text}
-use Rattle.scan_report.specs.declared.rows.Row.TheVariants.{End}
+use Rattle.scan_report.specs.declared.rows.Row.TheVariants.{Drill, End}
 use Rattle.scan_report.specs.declared.boxes.BoxRow.{BoxRow}
 use Rattle.study_model.specs.declared.records.ScanItem.{ScanItem}
 use Rattle.study_model.specs.declared.records.Study.{Study}
@@ -10,7 +10,7 @@ use Rattle.harmscan_core.specs.declared.counts.Tally.{Tally}
 use Rattle.harmscan_core.specs.declared.region.Region.{Region}
 use Rattle.scan_report.specs.Reading.{text_of}
 use Rattle.harmscan_core.specs.Report.{row_of, head_row}
-use Rattle.harmscan_core.specs.Fold.{open_rows, ended_rows, folded_rows, folded_summary, tallied, no_tally}
+use Rattle.harmscan_core.specs.Fold.{open_rows, ended_rows, folded_rows, folded_summary, tallied, no_tally, counted_status}
 use Rattle.harmscan_core.specs.Scan.{boxes_in}
 
 -- a scan's first row
@@ -57,3 +57,15 @@ scans_text study (scan ∷ scans) = scan_text study scan ++ scans_text study sca
 -- all rows of a study's scans, and the last row of a report
 unfoldable pub whole_text : Study → ℕ → List ℕ
 whole_text study status = scans_text study study.scans ++ end_text status
+
+-- the first row of a drill
+unfoldable pub drill_head_text : ℕ → ℕ → List ℕ
+drill_head_text number nodes = row_text (Drill number nodes)
+
+-- a scan's last row, and the last row of a report of this scan alone
+unfoldable pub counts_text : ScanItem → List BoxRow → List ℕ
+counts_text scan boxes = summary_text scan (tallied no_tally boxes) ++ end_text (counted_status boxes)
+
+-- all rows of a drill
+unfoldable pub counted_text : ℕ → ℕ → ScanItem → List BoxRow → List ℕ
+counted_text number nodes scan boxes = drill_head_text number nodes ++ counts_text scan boxes

@@ -1,15 +1,51 @@
 -- What the words of the command line ask for.
-use Rattle.std.specs.Prelude.{ℕ, Bool, false, not, ◌&&◌, nat_eq, if◌then◌else◌, List, [], ◌∷◌, codes, Option, Some, None}
+use Rattle.std.specs.Prelude.{ℕ, Bool, true, false, not, ◌&&◌, nat_eq, nat_le, if◌then◌else◌, List, [], ◌∷◌, length, codes, option_map, Option, Some, None}
+use Rattle.std.specs.Char.{is_ascii_digit}
+use Rattle.std.specs.List.{list_all}
 use Rattle.std.specs.Str.{bytes_eq}
+use Rattle.std.specs.Str.Parse.{digits_value}
+use Rattle.harmscan_core.specs.declared.words.Command.{Command}
+use Rattle.harmscan_core.specs.declared.words.Command.TheVariants as command
+
+-- the scan of a file, or the drill of a number
+pub data Reading : Type 0 where
+  scan : List ℕ → Reading
+  drill : ℕ → Reading
+
+-- the same, where the name of the file is lent
+abbrev pub seen : Command → Reading
+seen (command.Scan name) = scan name.now
+seen (command.Drill number) = drill number
 
 -- a word that isn't empty and begins with no dash
 abbrev pub is_file_word : List ℕ → Bool
 is_file_word [] = false
 is_file_word (b ∷ bs) = not (nat_eq b 45)
 
--- the file of `scan STUDY`, where the words are of this form
-abbrev pub reading : List (List ℕ) → Option (List ℕ)
+-- whether a word's first byte may begin a number: it is no 0, but where it is the only one
+abbrev pub has_no_leading_zero : List ℕ → Bool
+has_no_leading_zero [] = false
+has_no_leading_zero (d ∷ []) = true
+has_no_leading_zero (d ∷ e ∷ ds) = not (nat_eq d 48)
+
+-- one to six digits with no leading zero
+abbrev pub is_number_word : List ℕ → Bool
+is_number_word word = has_no_leading_zero word && nat_le (length word) 6 && list_all is_ascii_digit word
+
+-- the number that such a word writes
+unfoldable pub number_in : List ℕ → Option ℕ
+number_in word = if is_number_word word then Some (digits_value 10 word) else None
+
+-- what two words ask for, of the forms `scan STUDY` and `drill N`
+abbrev pub reading_of : List ℕ → List ℕ → Option Reading
+reading_of first word =
+    if bytes_eq first (codes "scan")
+    then (if is_file_word word then Some (scan word) else None)
+    else (if bytes_eq first (codes "drill") then option_map drill (number_in word) else None)
+
+-- what the words ask for, where they are of one of these forms
+abbrev pub reading : List (List ℕ) → Option Reading
 reading [] = None
-reading (command ∷ []) = None
-reading (command ∷ name ∷ []) = if bytes_eq command (codes "scan") && is_file_word name then Some name else None
-reading (command ∷ name ∷ third ∷ more) = None
+reading (first ∷ []) = None
+reading (first ∷ word ∷ []) = reading_of first word
+reading (first ∷ word ∷ third ∷ more) = None

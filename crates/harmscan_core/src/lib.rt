@@ -2,6 +2,7 @@
 #![tactic(auto)]
 
 mod counts;
+mod drill;
 mod limits;
 mod lines;
 mod outcome;

@@ -8,18 +8,22 @@ ghost use Rattle.study_reader.specs.Built.{IsBuilt};
 ghost use Rattle.sequence_network.specs.Refusals.{HasLiveNetworks};
 ghost use Rattle.study_model.specs.declared.fault.StudyFault.{StudyFault};
 ghost use Rattle.harmscan_core.specs.Accepted.{IsAccepted, IsRefused};
-ghost use Rattle.harmscan_core.specs.Words.{reading};
+ghost use Rattle.drill_study.specs.Drill.{drill_of};
+ghost use Rattle.harmscan_core.specs.Report.{report_text, drill_text};
+ghost use Rattle.harmscan_core.specs.Words.{reading, scan, drill};
 ghost use Rattle.harmscan_core.specs.Plan.{AreNetworksOf, study_alone};
 ghost use Rattle.harmscan_core.specs.Outcome.{ReadsStudy, RefusesNetworks, Reports, Happens, HappensFor, Runs, IsComplete, IsWritten, WritesReport, Asks, IsRefusal, StopsWithin, RefusesFor, EndsAtOnce, longest_file};
 
+use crate::drill::report_drill;
 use crate::limits::LONGEST_FILE;
 use crate::lines::say;
 use crate::outcome::{Outcome, after_fault, after_fetch, after_put, after_words, status};
 use crate::plan::AcceptedStudy;
 use crate::report::put_report;
 use crate::scan::plan_of;
-use crate::words::reading;
+use crate::words::{Command, reading};
 use complex_interval::{Enclosure, Span};
+use drill_study::drill_study;
 use harm_io::{Shelf, Sink};
 use sequence_network::{Networks, networks_of};
 use std::alloc::Global;
@@ -75,7 +79,7 @@ fn report_at<E: Enclosure, O: Sink>(
     requires networks { AreNetworksOf study.now networks.now }
     requires live { HasLiveNetworks study.now }
     requires scale { E.SCALE ≡ study.now.scale }
-    ensures { Reports study.now (O.state out.old) (O.state out.new) result }
+    ensures { Reports study.now (report_text study.now) (O.state out.old) (O.state out.new) result }
 {
     match plan_of::<E>(alloc, study, networks) {
         Err(_) => Outcome::NoMemory,
@@ -91,7 +95,7 @@ fn report<O: Sink>(alloc: Global, study: &Study, networks: &Networks, out: &mut 
     requires study { IsBuilt study.now }
     requires networks { AreNetworksOf study.now networks.now }
     requires live { HasLiveNetworks study.now }
-    ensures { Reports study.now (O.state out.old) (O.state out.new) result }
+    ensures { Reports study.now (report_text study.now) (O.state out.old) (O.state out.new) result }
 {
     if study.scale == 40 {
         report_at::<Span<40>, O>(alloc, study, networks, out)
@@ -110,6 +114,20 @@ fn scan<F: Shelf, O: Sink>(alloc: Global, name: &str, shelf: &mut F, out: &mut O
     }
 }
 
+/// The drill of a number. Its study is accepted, whatever the number.
+#[tactic(auto, using(crate::proofs::Drills::is_built, crate::proofs::Drills::not_accepted))]
+fn drill<O: Sink>(alloc: Global, number: u32, out: &mut O) -> Outcome
+    ensures { Reports (drill_of number) (drill_text number) (O.state out.old) (O.state out.new) result }
+{
+    match drill_study(alloc, number) {
+        Err(_) => Outcome::NoMemory,
+        Ok(study) => match accepted_networks(alloc, &study) {
+            Err(outcome) => outcome,
+            Ok(networks) => report_drill(alloc, number, &study, &networks, out),
+        },
+    }
+}
+
 /// What the words ask for.
 fn perform<F: Shelf, O: Sink>(
     alloc: Global,
@@ -120,13 +138,14 @@ fn perform<F: Shelf, O: Sink>(
     ensures { HappensFor (reading (names_of words.now)) (F.state shelf.old) (F.state shelf.new) (O.state out.old) (O.state out.new) result }
 {
     match reading(words) {
-        Some(name) => scan(alloc, name, shelf, out),
+        Some(Command::Scan(name)) => scan(alloc, name, shelf, out),
+        Some(Command::Drill(number)) => drill(alloc, number, out),
         None => Outcome::WordsRefused,
     }
 }
 
 /// Runs the words of the command line, and answers the program's status. `words` are without the
-/// program's name; `scan STUDY` is the one reading.
+/// program's name; the readings are `scan STUDY` and `drill N`.
 pub fn run<F: Shelf, O: Sink, E: Sink>(
     alloc: Global,
     words: &[String],
@@ -137,12 +156,15 @@ pub fn run<F: Shelf, O: Sink, E: Sink>(
     // The whole of it: one outcome, with its status, its line and all that the shelf and the sinks saw.
     ensures runs { Runs (reading (names_of words.now)) (F.state shelf.old) (F.state shelf.new) (O.state out.old) (O.state out.new)
         (E.state err.old) (E.state err.new) result }
-    // At 0, 3 and 4 the whole report of the study was written, and all that it claims holds.
+    // At 0, 3 and 4 the whole report of the study or of the drill was written, and all that it claims holds.
     ensures report { IsWritten result → WritesReport (reading (names_of words.now)) (F.state shelf.old) (F.state shelf.new) (O.state out.old) (O.state out.new) result }
     // A study that is told and accepted is reported whole where no fault came, unless memory is wanting.
-    ensures complete { (name bytes : List ℕ) (study : Study) → reading (names_of words.now) ≡ Some name → (F.state shelf.old).file name ≡ Some bytes
+    ensures complete { (name bytes : List ℕ) (study : Study) → reading (names_of words.now) ≡ Some (scan name) → (F.state shelf.old).file name ≡ Some bytes
         → length bytes ≤ longest_file → IsAccepted bytes study → (Rose (F.state shelf.old).faults (F.state shelf.new).faults → ⊥)
-        → (Rose (O.state out.old).faults (O.state out.new).faults → ⊥) → IsComplete result (O.state out.old) (O.state out.new) study }
+        → (Rose (O.state out.old).faults (O.state out.new).faults → ⊥) → IsComplete result (O.state out.old) (O.state out.new) study (report_text study) }
+    // So is a drill.
+    ensures drilled { (number : ℕ) → reading (names_of words.now) ≡ Some (drill number) → (Rose (O.state out.old).faults (O.state out.new).faults → ⊥)
+        → IsComplete result (O.state out.old) (O.state out.new) (drill_of number) (drill_text number) }
 
     // No file is asked for but the one that the words name, and that once at most.
     ensures asks { Asks (reading (names_of words.now)) (F.state shelf.old) (F.state shelf.new) }
@@ -155,10 +177,10 @@ pub fn run<F: Shelf, O: Sink, E: Sink>(
     ensures write_fault { (O.state out.old).faults < (O.state out.new).faults → result ≡ 6 }
     ensures write_memory { (O.state out.old).refused < (O.state out.new).refused → result ≡ 7 }
     // A study that is told and refused is refused for its fault, and a file that is told to be too large is refused so, where the shelf had no fault, unless memory is wanting.
-    ensures refused { (name bytes : List ℕ) (fault : StudyFault) → reading (names_of words.now) ≡ Some name → (F.state shelf.old).file name ≡ Some bytes
+    ensures refused { (name bytes : List ℕ) (fault : StudyFault) → reading (names_of words.now) ≡ Some (scan name) → (F.state shelf.old).file name ≡ Some bytes
         → length bytes ≤ longest_file → IsRefused bytes fault → (Rose (F.state shelf.old).faults (F.state shelf.new).faults → ⊥)
         → RefusesFor (Outcome.Refused fault) result (O.state out.old) (O.state out.new) (E.state err.old) (E.state err.new) }
-    ensures too_large { (name bytes : List ℕ) → reading (names_of words.now) ≡ Some name → (F.state shelf.old).file name ≡ Some bytes
+    ensures too_large { (name bytes : List ℕ) → reading (names_of words.now) ≡ Some (scan name) → (F.state shelf.old).file name ≡ Some bytes
         → longest_file < length bytes → (Rose (F.state shelf.old).faults (F.state shelf.new).faults → ⊥)
         → RefusesFor Outcome.TooLarge result (O.state out.old) (O.state out.new) (E.state err.old) (E.state err.new) }
 {

@@ -34,7 +34,7 @@ use study_model::{ScanItem, Sequence, Study};
 
 /// Puts a line.
 #[tactic(auto, using(harm_io::proofs::Writing::writes_put))]
-fn put_line<O: Sink>(out: &mut O, line: &LineBuf) -> Result<(), PutFault>
+pub fn put_line<O: Sink>(out: &mut O, line: &LineBuf) -> Result<(), PutFault>
     ensures { Writes line.now (O.state out.old) (O.state out.new) result }
 {
     out.put(line.as_bytes())
@@ -214,7 +214,7 @@ fn put_boxes<E: Enclosure, O: Sink>(
 
 /// Puts a scan's summary, and answers its counts.
 #[tactic(auto, unfolding(crate::specs::Texts::summary_text))]
-fn put_summary<O: Sink>(
+pub fn put_summary<O: Sink>(
     scan: &ScanItem,
     tally: Tally,
     line: &mut LineBuf,
@@ -241,7 +241,7 @@ fn put_summary<O: Sink>(
 
 /// Puts the last row, and answers its status.
 #[tactic(auto, unfolding(crate::specs::Texts::end_text))]
-fn put_end<O: Sink>(status: u8, line: &mut LineBuf, out: &mut O) -> Result<u8, PutFault>
+pub fn put_end<O: Sink>(status: u8, line: &mut LineBuf, out: &mut O) -> Result<u8, PutFault>
     ensures wrote { Writes (end_text status) (O.state out.old) (O.state out.new) result }
     ensures status { IfOk result (λ s. s ≡ status) }
 {

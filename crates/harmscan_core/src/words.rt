@@ -1,7 +1,18 @@
 // What the words of the command line ask for. They are read by hand, since a reading takes no memory.
 ghost use Rattle.std.specs.Prelude.{◌≡◌, option_map};
+ghost use Rattle.std.specs.Char.{is_ascii_digit};
+ghost use Rattle.std.specs.List.{list_all};
 ghost use Rattle.harm_io.specs.Memory.{names_of};
-ghost use Rattle.harmscan_core.specs.Words.{is_file_word, reading};
+ghost use Rattle.harmscan_core.specs.Words.{is_file_word, has_no_leading_zero, is_number_word, number_in, reading, reading_of, seen};
+
+/// What the words ask for.
+#[derive(Clone, Copy)]
+pub enum Command<'a> {
+    /// The scan of the study in the file of this name.
+    Scan(&'a str),
+    /// The drill of this number.
+    Drill(u32),
+}
 
 fn is_file_word(word: &[u8]) -> bool
     ensures { result ≡ is_file_word word.now }
@@ -12,19 +23,66 @@ fn is_file_word(word: &[u8]) -> bool
     }
 }
 
-/// The study that the words name, where they have a reading.
+fn has_no_leading_zero(word: &[u8]) -> bool
+    ensures { result ≡ has_no_leading_zero word.now }
+{
+    match word {
+        [] => false,
+        [_] => true,
+        [first, _, ..] => *first != b'0',
+    }
+}
+
+fn are_digits(word: &[u8]) -> bool
+    ensures { result ≡ list_all is_ascii_digit word.now }
+{
+    word.iter().all(|byte| byte.is_ascii_digit())
+}
+
+fn is_number_word(word: &[u8]) -> bool
+    ensures { result ≡ is_number_word word.now }
+{
+    has_no_leading_zero(word) && word.len() <= 6 && are_digits(word)
+}
+
+/// The number that a word writes, which is one to six digits without a leading zero unless it is `0`.
+fn number_in(word: &str) -> Option<u32>
+    ensures { result ≡ number_in word.now }
+{
+    if is_number_word(word.as_bytes()) {
+        word.parse().ok()
+    } else {
+        None
+    }
+}
+
+/// What two words ask for, where they have a reading.
+fn reading_of<'a>(first: &str, word: &'a str) -> Option<Command<'a>>
+    ensures { option_map seen result ≡ reading_of first.now word.now }
+{
+    if first == "scan" {
+        if is_file_word(word.as_bytes()) {
+            Some(Command::Scan(word))
+        } else {
+            None
+        }
+    } else if first == "drill" {
+        match number_in(word) {
+            Some(number) => Some(Command::Drill(number)),
+            None => None,
+        }
+    } else {
+        None
+    }
+}
+
+/// What the words ask for, where they have a reading.
 #[tactic(auto, using(crate::proofs::WordCounts::reading_few, crate::proofs::WordCounts::reading_more))]
-pub fn reading<'a>(words: &'a [String]) -> Option<&'a str>
-    ensures { option_map (λ s. s.now) result ≡ reading (names_of words.now) }
+pub fn reading<'a>(words: &'a [String]) -> Option<Command<'a>>
+    ensures { option_map seen result ≡ reading (names_of words.now) }
 {
     match words {
-        [command, name] => {
-            if command.as_str() == "scan" && is_file_word(name.as_bytes()) {
-                Some(name.as_str())
-            } else {
-                None
-            }
-        }
+        [first, word] => reading_of(first.as_str(), word.as_str()),
         [] => None,
         [_] => None,
         [_, _, _, ..] => None,

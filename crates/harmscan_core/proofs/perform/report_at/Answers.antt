@@ -1,4 +1,4 @@
-use Rattle.harmscan_core.proofs.Written.{is_reported, not_reported}
+use Rattle.harmscan_core.proofs.Written.{is_reported}
 use Rattle.harmscan_core.proofs.perform.report_at.Goals as goal
 
 pub returns-in-Ok-put_report : goal.returns-in-Ok-put_report

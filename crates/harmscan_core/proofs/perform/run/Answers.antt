@@ -1,7 +1,9 @@
 use Rattle.std.proofs.Common.{◌∙◌, sym, ℕ, subst}
+use Rattle.drill_study.specs.Drill.{drill_of}
+use Rattle.harmscan_core.specs.Report.{report_text, drill_text}
 use Rattle.harmscan_core.specs.Outcome.{IsComplete, IsRefusal, RefusesFor}
 use Rattle.harmscan_core.specs.declared.outcome.Outcome.TheVariants.{Refused, TooLarge}
-use Rattle.harmscan_core.proofs.Complete.{complete_for, refused_for, too_large_for}
+use Rattle.harmscan_core.proofs.Complete.{complete_for, drilled_for, refused_for, too_large_for}
 use Rattle.harmscan_core.proofs.Causes.{read_rose, write_rose, memory_rose, asks_once, writes_report_at, nothing_put, stops_within, words_refused, words_none}
 use Rattle.harmscan_core.proofs.perform.run.Goals as goal
 
@@ -41,5 +43,10 @@ returns-clause-too_large g c = λ name bytes w told large read.
 
 pub returns-clause-complete : goal.returns-clause-complete
 returns-clause-complete g c = λ name bytes study w told small is read write.
-    subst (λ (s : ℕ). IsComplete s (g.O.Sink.state c.args.out.now) (g.O.Sink.state c.perform-outcome.new.out) study) (sym c.status.ensures)
+    subst (λ (s : ℕ). IsComplete s (g.O.Sink.state c.args.out.now) (g.O.Sink.state c.perform-outcome.new.out) study (report_text study)) (sym c.status.ensures)
     (complete_for _ name bytes study _ _ _ _ _ c.perform-outcome.ensures w told small is read write)
+
+pub returns-clause-drilled : goal.returns-clause-drilled
+returns-clause-drilled g c = λ number w write.
+    subst (λ (s : ℕ). IsComplete s (g.O.Sink.state c.args.out.now) (g.O.Sink.state c.perform-outcome.new.out) (drill_of number) (drill_text number)) (sym c.status.ensures)
+    (drilled_for _ number _ _ _ _ _ c.perform-outcome.ensures w write)
