@@ -3,7 +3,7 @@
 
 usage: compare.py PROGRAM [--count N] [--seed S]
 
-Each study has one to four buses and elements of every kind, in both networks, at either scale, by either method and of either version;
+Each study has one to four buses and elements of every kind, in both networks, at either scale, by each method and of either version;
 a study that the program refuses counts as refused, and its scan is not compared. Prints a line for each study that differs and keeps it in the current folder; the
 status is 1 where one does.
 """
@@ -87,7 +87,7 @@ def study(rng):
     kv = rng.choice([10, 33, 110])
     version = rng.choice([1, 2])
     text = f"[study]\nversion = {version}\nmva = {rng.choice([10, 100])}\nhz = {rng.choice([50, 60])}\nscale = {rng.choice([40, 48])}\n"
-    text += f'method = "{rng.choice(["elimination", "both"])}"\n'
+    text += f'method = "{rng.choice(["elimination", "both", "branchwise"])}"\n'
     text += "".join(table("bus", name=bus, kv=kv) for bus in buses)
     text += source(rng, '"S"', buses[0])
     # every bus hangs on one before it, by a line or a transformer

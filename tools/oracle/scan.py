@@ -3,8 +3,8 @@
 
 usage: scan.py STUDY
 
-It follows docs/elements.md, arithmetic.md, admittance.md, elimination.md, inverse.md, scan.md and report.md over Python's whole
-numbers and exact fractions, and shares no code with harmscan. It takes accepted studies of the sequence model alone, and judges nothing: of a
+It follows docs/elements.md, arithmetic.md, admittance.md, elimination.md, inverse.md, branchwise.md, scan.md and report.md over
+Python's whole numbers and exact fractions, and shares no code with harmscan. It takes accepted studies of the sequence model alone, and judges nothing: of a
 study that harmscan refuses it says nothing, or anything. It is slow: a test of a box takes milliseconds.
 """
 import math
@@ -208,6 +208,107 @@ def enclosed(a, rows):
     return x[-1][0][0], x[-1][1][0], error
 
 
+# ---- the estimate branch by branch, with the bound of its error
+
+class Drop:
+    """The sum of the voltages of some nodes, each times the ratio of its tap; and the admittances that count at it, as a middle and a rest."""
+
+    def __init__(self, taps):
+        self.taps = taps
+        self.middle = self.rest = NOUGHT
+
+    def of(self, a, voltages):
+        total = NOUGHT
+        for place, ratio in self.taps:
+            total = a.cadd(total, a.cscale(voltages[place], ratio))
+        return total
+
+
+def halves(a, y):
+    """The point in the middle of an admittance, and the rest of it."""
+    middle = point((y[0][0] + y[0][1]) // 2, (y[1][0] + y[1][1]) // 2)
+    return middle, a.csub(y, middle)
+
+
+def drops_of(a, count, branches):
+    """One for each node, then one for each branch of two taps or more. Branches are pairs of their taps and their admittances."""
+    drops = [Drop([(place, a.of(Fraction(1)))]) for place in range(count)]
+    for taps, y in branches:
+        middle, rest = halves(a, y)
+        drop, factor = None, a.of(Fraction(1))
+        if len(taps) == 1:
+            (place, ratio), = taps
+            drop, factor = drops[place], a.mul(ratio, ratio)
+        else:
+            drop = Drop(taps)
+            drops.append(drop)
+        drop.middle = a.cadd(drop.middle, a.cscale(middle, factor))
+        drop.rest = a.cadd(drop.rest, a.cscale(rest, factor))
+    return drops
+
+
+def kept(n):
+    if n > LIMIT:
+        raise NoValue
+    return n
+
+
+class Reach:
+    """What drops of given sizes reach at most."""
+
+    def __init__(self, a, drops, eta, kappa, rho):
+        self.a, self.drops, self.eta, self.kappa, self.rho = a, drops, eta, kappa, rho
+
+    def part(self, x, y):
+        return ceil_div(x * y, self.a.one_raw)
+
+    def of(self, sizes):
+        nodes = [kept(sum(self.part(e, v) for e, v in zip(row, sizes))) for row in self.eta]
+        edges = [kept(sum(self.part(mag(ratio), nodes[place]) for place, ratio in drop.taps)) for drop in self.drops]
+        far = [kept(self.part(r, v)) for r, v in zip(self.rho, sizes)]
+        return edges, [kept(edge + sum(self.part(k, f) for k, f in zip(row, far))) for edge, row in zip(edges, self.kappa)]
+
+
+def corrected(a, k, x, d):
+    """The product of three: the first two first, or the last two where that has no value."""
+    try:
+        return a.cmul(a.cmul(k, x), d)
+    except NoValue:
+        return a.cmul(k, a.cmul(x, d))
+
+
+def estimated(a, count, branches):
+    """The impedance of the last node as a rectangle, and the bound of its error, in units of 1/2^S."""
+    drops = drops_of(a, count, branches)
+    middles = [[NOUGHT] * count for _ in range(count)]
+    for drop in drops:
+        for i, c in drop.taps:
+            for j, d in drop.taps:
+                middles[i][j] = a.cadd(middles[i][j], a.cscale(drop.middle, a.mul(c, d)))
+    guess = middle_inverse(a, middles)
+    columns = list(zip(*middles))
+    one = point(a.one_raw)
+    eta = [[kept(size(a.csub(one if i == j else NOUGHT, dot(a, guess[i], columns[j])))) for j in range(count)] for i in range(count)]
+    voltages = [[drop.of(a, row) for row in guess] for drop in drops]
+    kappa = [[kept(size(drop.of(a, v))) for v in voltages] for drop in drops]
+    rho = [kept(size(drop.rest)) for drop in drops]
+    reach = Reach(a, drops, eta, kappa, rho)
+    last = count - 1
+    column = voltages[last]
+    found = [drop.of(a, column) for drop in drops]
+    edges, reached = reach.of([kept(size(x)) for x in found])
+    weights = [kept(s + max(reached) // (1 << 20) + 65536) for s in reached]
+    _, weighed = reach.of(weights)
+    theta = kept(max(ceil_div(t << a.scale, w) for t, w in zip(weighed, weights)))
+    if theta >= a.one_raw:
+        raise NoValue
+    error = kept(edges[last] + ceil_div(weighed[last] << a.scale, a.one_raw - theta))
+    total = NOUGHT
+    for drop, v, x in zip(drops, voltages, found):
+        total = a.cadd(total, corrected(a, v[last], x, drop.rest))
+    return a.csub(column[last], total), error
+
+
 # ---- a threshold over the orders
 
 class Curve:
@@ -395,7 +496,7 @@ class Scan:
         self.prepared = None
         self.v, self.s = millionths(str(study.table["bus"][self.bus]["kv"])), millionths(str(study.table["study"]["mva"]))
         self.curve = Curve(entry)
-        self.both = study.table["study"].get("method") == "both"
+        self.method = study.table["study"].get("method", "elimination")
         self.finest = millionths(str(entry["finest"]))
         self.locate = millionths(str(entry.get("locate", entry["finest"])))
         self.lo, self.hi = millionths(str(entry["from"])), millionths(str(entry["to"]))
@@ -403,11 +504,11 @@ class Scan:
     def parameters(self, branch):
         taps, law = branch
         factors = [(self.place[n], self.place[o], self.a.mul(self.a.of(c), self.a.of(d))) for n, c in taps for o, d in taps]
-        return law[0], law[0] == "series" and law[2] == 0, [self.a.of(x) for x in law[1:]], factors
+        return law[0], law[0] == "series" and law[2] == 0, [self.a.of(x) for x in law[1:]], factors, [(self.place[n], self.a.of(c)) for n, c in taps]
 
     def admittance(self, h, branch):
         a = self.a
-        kind, plain, values, _ = branch
+        kind, plain, values, *_ = branch
         if kind == "shunt":
             return ((0, 0), a.mul(h, values[0]))
         r, k, m, x, xc = values
@@ -417,14 +518,17 @@ class Scan:
         reactance = a.sub(a.mul(h, x), a.div(xc, h))
         return a.cdiv((one, (0, 0)), (r, reactance))
 
-    def matrix(self, lo, hi):
-        a = self.a
+    def admittances(self, lo, hi):
+        """Each branch with its admittance over the box."""
         if self.prepared is None:
             self.prepared = [self.parameters(b) for b in self.branches]
-        h = ends(floor_div(lo << a.scale, MILLION), ceil_div(hi << a.scale, MILLION))
+        h = ends(floor_div(lo << self.a.scale, MILLION), ceil_div(hi << self.a.scale, MILLION))
+        return [(branch, self.admittance(h, branch)) for branch in self.prepared]
+
+    def matrix(self, lo, hi):
+        a = self.a
         rows = [[NOUGHT] * self.size for _ in range(self.size)]
-        for branch in self.prepared:
-            y = self.admittance(h, branch)
+        for branch, y in self.admittances(lo, hi):
             for row, column, factor in branch[3]:
                 rows[row][column] = a.cadd(rows[row][column], a.cscale(y, factor))
         return rows
@@ -473,15 +577,31 @@ class Scan:
             return clear, None
         return clear, over * self.v * self.v // ((1 << self.a.scale) * self.s)
 
+    def by_branches(self, lo, hi, T):
+        """The same of the branch-wise part."""
+        most, least = math.floor(T * (1 << self.a.scale)), math.ceil(T * (1 << self.a.scale))
+        try:
+            z, error = estimated(self.a, self.size, [(branch[4], y) for branch, y in self.admittances(lo, hi)])
+        except NoValue:
+            return False, None
+        clear = most <= LIMIT and root_ceil(high_square(z)) + error <= most
+        over = math.isqrt(low_square(z)) - error
+        if least > LIMIT or over <= least:
+            return clear, None
+        return clear, over * self.v * self.v // ((1 << self.a.scale) * self.s)
+
     def answers(self, lo, hi):
-        """The answers of both parts, the first of them first."""
+        """The answers of the parts, the first of them first."""
         T = self.curve.least(lo, hi) * self.s / (self.v * self.v)
         try:
             rows = self.matrix(lo, hi)
         except NoValue:
-            return
-        yield self.by_elimination(rows, T)
-        if self.both and hi - lo <= self.locate:
+            rows = None
+        if rows:
+            yield self.by_elimination(rows, T)
+        if self.method == "branchwise":
+            yield self.by_branches(lo, hi, T)
+        elif rows and self.method == "both" and hi - lo <= self.locate:
             yield self.by_inverse(rows, T)
 
     def is_clear(self, lo, hi):

@@ -14,7 +14,7 @@ use Rattle.network_theory.specs.Order.{Order, IsOrder}
 use Rattle.network_theory.specs.Box.{LiesIn}
 use Rattle.network_theory.specs.Network.{Network}
 use Rattle.network_theory.specs.Between.{LiesBetween}
-use Rattle.network_theory.specs.Extra.{shunt_at, with_shunt}
+use Rattle.network_theory.specs.Extra.{shunt_at, with_shunt, scanned_network}
 use Rattle.network_theory.specs.Impedance.{shunt_admittance}
 use Rattle.network_theory.specs.Admittance.{Part, Alone}
 use Rattle.network_theory.specs.DrivingPoint.{unit_at}

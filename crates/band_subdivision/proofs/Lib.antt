@@ -14,7 +14,10 @@ pub mod Scans
 pub mod Lifts
 pub mod Near
 pub mod PartTests
+pub mod BySize
 pub mod InverseSound
+pub mod BranchwiseSound
+pub mod Estimates
 pub mod Enclosures
 pub mod PairSound
 pub mod Filled

@@ -18,7 +18,7 @@ use Rattle.network_theory.specs.Order.{Order, IsOrder, fraction}
 use Rattle.network_theory.specs.Box.{LiesIn}
 use Rattle.network_theory.specs.Network.{Network}
 use Rattle.network_theory.specs.Between.{LiesBetween}
-use Rattle.network_theory.specs.Extra.{with_shunt}
+use Rattle.network_theory.specs.Extra.{with_shunt, scanned_network}
 use Rattle.network_theory.specs.Impedance.{shunt_admittance}
 use Rattle.network_theory.specs.Reduced.{IsReducedTo}
 use Rattle.network_theory.proofs.Extra.{extra_shunt}

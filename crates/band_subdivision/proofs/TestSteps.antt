@@ -8,7 +8,7 @@ use Rattle.std.proofs.lemmas.Int.{ints, to_z-of_z}
 use Rattle.std.proofs.lemmas.Nat.{mul-le, pow_pos}
 use Rattle.exact_algebra.specs.Ratio.{den}
 use Rattle.exact_fraction.specs.Root.{root_ceil_of}
-use Rattle.complex_interval.specs.Ends.{Ends, zero_between, mig_of, mag_of}
+use Rattle.complex_interval.specs.Ends.{Ends, AreEnds, zero_between, mig_of, mag_of}
 use Rattle.complex_interval.specs.Rectangles.{Rectangle, low_square_sum, high_square_sum}
 use Rattle.exact_fraction.specs.Fraction.{ratio_of}
 use Rattle.exact_fraction.specs.declared.fraction.Fraction.{Fraction}
@@ -171,6 +171,26 @@ square_fits a b p q =
     let first : a * a ≤ 2 ^ 62 * 2 ^ 62 = mul-le _ _ _ _ p p in
     let second : b * b ≤ 2 ^ 62 * 2 ^ 62 = mul-le _ _ _ _ q q in
     omega (arith, first, second)
+
+-- and so are those of the sizes of a rectangle
+low_fits_by : (a : Ends) → unsigned_abs a.low ≤ 2 ^ 62 → mig_of a ≤ 2 ^ 62
+low_fits_by a p = by (zero_between a) (unsigned_abs a.low) (unsigned_abs a.high) p
+  where
+    by : (t : Bool) (l h : ℕ) → l ≤ 2 ^ 62 → (if t then 0 else min l h) ≤ 2 ^ 62
+    by true l h p = omega arith
+    by false l h p = omega (arith, p)
+
+pub low_square_fits : (a : Rectangle) → unsigned_abs a.re.low ≤ 2 ^ 62 → unsigned_abs a.im.low ≤ 2 ^ 62 → low_square_sum a < 2 ^ 126
+low_square_fits a p q = square_fits (mig_of a.re) (mig_of a.im) (low_fits_by a.re p) (low_fits_by a.im q)
+
+pub low_fits : (a : Rectangle) → AreEnds a.re → AreEnds a.im → low_square_sum a < 2 ^ 126
+low_fits a p q = low_square_fits a p.low_fits q.low_fits
+
+mag_fits : (a : Ends) → AreEnds a → mag_of a ≤ 2 ^ 62
+mag_fits a h = let p = h.low_fits in let q = h.high_fits in omega (arith, p, q)
+
+pub high_fits : (a : Rectangle) → AreEnds a.re → AreEnds a.im → high_square_sum a < 2 ^ 126
+high_fits a p q = square_fits (mag_of a.re) (mag_of a.im) (mag_fits a.re p) (mag_fits a.im q)
 
 -- it is at most 2^63
 pub root_fits : (r n : ℕ) → r * r ≤ n → n < 2 ^ 126 → r ≤ 2 ^ 63

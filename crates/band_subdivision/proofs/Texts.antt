@@ -3,19 +3,25 @@ use Rattle.std.proofs.Common.{◌≡◌, ℕ, ◌*◌, ◌-◌, ◌^◌, ◌≤�
 use Rattle.std.specs.Prelude.{if◌then◌else◌}
 use Rattle.exact_fraction.proofs.Steps.{pow_at_most}
 use Rattle.exact_fraction.specs.Root.{root_ceil_of}
-use Rattle.complex_interval.specs.Rectangles.{Rectangle, high_square_sum}
+use Rattle.complex_interval.specs.Rectangles.{Rectangle, low_square_sum, high_square_sum}
 use Rattle.exact_algebra.specs.Ratio.{Ratio}
 use Rattle.network_theory.specs.Network.{Network}
 use Rattle.certified_inverse.specs.Sizes.{IsInRange}
 use Rattle.certified_inverse.proofs.Sizes.{enclosure_in_range}
+use Rattle.branchwise_test.specs.Enclosed.{impedance_near_with}
+use Rattle.study_model.specs.declared.words.Method.{Method}
+use Rattle.study_model.specs.declared.words.Method.TheVariants.{Elimination, Both, Branchwise}
 use Rattle.band_subdivision.specs.Boxes.{BoxTest, IsTestable, above_at, Widths, middle, peak_or, peak_of, kind_of, boxes_of}
 use Rattle.band_subdivision.specs.Split.{ComesFrom, itself, lower, upper}
 use Rattle.band_subdivision.specs.IntervalTest.{micro_ohms_of, above_bound, elimination_test}
 use Rattle.band_subdivision.specs.InverseTest.{least_above, point_square, root_floor_of, inverse_test}
+use Rattle.band_subdivision.specs.BranchwisePart.{branchwise_part}
 use Rattle.band_subdivision.specs.Levels.{Levels, AreScanLevels}
 use Rattle.band_subdivision.specs.PairTest.{last_enclosure, pair_value, pair_enclosure, pair_test}
-use Rattle.band_subdivision.specs.Parts.{or_else, either, is_near, where_near}
+use Rattle.band_subdivision.specs.Parts.{or_else, either, is_near, where_near, second_part}
 use Rattle.band_subdivision.specs.BoxText.{ohms_of_kind, HasText, BoxesHaveText}
+use Rattle.band_subdivision.proofs.BranchwiseSound.{over_near_parts}
+use Rattle.band_subdivision.proofs.Estimates.{Fits, estimate_fits}
 use Rattle.band_subdivision.proofs.InverseSound.{over_parts}
 use Rattle.band_subdivision.proofs.Sound.{above_parts}
 use Rattle.band_subdivision.proofs.Splits.{boxes_come, all_along}
@@ -92,9 +98,10 @@ unfolding inverse_test pair_enclosure
 inverse_names scale from levels low high ordering e h = record {
   at_each = λ at ohms testable passed.
       let parts = over_parts scale (levels at at) (least_above scale (levels at at)) _ ohms passed in
-      let range = subst (λ o. IsInRange o) parts.is_enclosed (last_in_range scale _) in
-      let fits = size_below parts.re parts.im parts.error range in
-      subst (λ o. IsOhms (Some o)) (sym parts.is_ohms) (from_size scale (levels at at) (root_floor_of (point_square parts.re parts.im) - parts.error) (h at testable) fits);
+      let p = parts.point in
+      let range = subst (λ o. IsInRange o) p.is_enclosed (last_in_range scale _) in
+      let fits = size_below p.re p.im p.error range in
+      subst (λ o. IsOhms (Some o)) (sym parts.beyond.is_ohms) (from_size scale (levels at at) (root_floor_of (point_square p.re p.im) - p.error) (h at testable) fits);
 }
   where
     last_in_range : (s : ℕ) (o : Option (List (List Rectangle))) → IsInRange (last_enclosure s o)
@@ -106,6 +113,19 @@ inverse_names scale from levels low high ordering e h = record {
         let fits = root_fits (root_floor_of (point_square re im)) (point_square re im) (root_floor_square (point_square re im)) (square_fits (unsigned_abs re) (unsigned_abs im) range.0 range.1) in
         omega (arith, fits)
 
+-- and those of the branch-wise part
+branchwise_names : (scale from : ℕ) (levels : ℕ → ℕ → Levels) (low high : Network) (ordering : List ℕ) (e : Ratio) → ((at : ℕ) → IsTestable from at at → AreScanLevels (levels at at))
+    → NamesOhms from (branchwise_part scale levels (impedance_near_with scale low high ordering e))
+unfolding branchwise_part
+branchwise_names scale from levels low high ordering e h = record {
+  at_each = λ at ohms testable passed.
+      let parts = over_near_parts scale (levels at at) (least_above scale (levels at at)) _ ohms passed in
+      let square = low_square_sum parts.near.estimate in
+      let range = subst (λ o. Fits o) parts.is_near (estimate_fits scale low high ordering e at at) in
+      let fits = root_fits (root_floor_of square) square (root_floor_square square) range in
+      subst (λ o. IsOhms (Some o)) (sym parts.beyond.is_ohms) (from_size scale (levels at at) (root_floor_of square - parts.near.error) (h at testable) (omega (arith, fits)));
+}
+
 either_names : (from : ℕ) (first second : BoxTest) → NamesOhms from first → NamesOhms from second → NamesOhms from (either first second)
 either_names from first second one other = record {
   at_each = λ at ohms testable. by at ohms testable (first.above at at) (second.above at at) refl refl;
@@ -115,17 +135,23 @@ either_names from first second one other = record {
     by at ohms testable (Some x) p is_o is_p e = one.at_each at ohms testable (is_o ∙ e)
     by at ohms testable None p is_o is_p e = other.at_each at ohms testable (is_p ∙ e)
 
-near_names : (from : ℕ) (asked : Bool) (locate : ℕ) (test : BoxTest) → NamesOhms from test → NamesOhms from (where_near asked locate test)
-near_names from asked locate test names = record { at_each = λ at ohms testable. by at ohms testable (is_near asked locate at at) }
+near_names : (from locate : ℕ) (test : BoxTest) → NamesOhms from test → NamesOhms from (where_near locate test)
+near_names from locate test names = record { at_each = λ at ohms testable. by at ohms testable (is_near locate at at) }
   where
     by : (at : ℕ) (ohms : ℤ) → IsTestable from at at → (t : Bool) → (if t then test.above at at else None) ≡ Some ohms → IsOhms (Some ohms)
     by at ohms testable true e = names.at_each at ohms testable e
     by at ohms testable false e = absurd cc
 
+second_names : (from : ℕ) (m : Method) (locate : ℕ) (inverse branchwise : BoxTest) → NamesOhms from inverse → NamesOhms from branchwise → NamesOhms from (second_part m locate inverse branchwise)
+second_names from Elimination locate inverse branchwise i b = record { at_each = λ at ohms testable e. absurd cc }
+second_names from Both locate inverse branchwise i b = near_names from locate inverse i
+second_names from Branchwise locate inverse branchwise i b = b
+
 pub boxes_have_text : BoxesHaveText
 boxes_have_text scale from asked low high ordering e widths lo hi small h fine up testable =
     let test = pair_test scale asked low high ordering e in
-    let names = either_names from _ _ (elimination_names scale from asked.levels (pair_value scale low high ordering e) small h) (near_names from asked.both asked.locate _ (inverse_names scale from asked.levels low high ordering e h)) in
+    let second = second_names from asked.method asked.locate _ _ (inverse_names scale from asked.levels low high ordering e h) (branchwise_names scale from asked.levels low high ordering e h) in
+    let names = either_names from _ _ (elimination_names scale from asked.levels (pair_value scale low high ordering e) small h) second in
     all_along (ComesFrom test widths lo hi) HasText (boxes_of test widths lo hi)
     (λ row. come_writes from test widths lo hi row names testable)
     (boxes_come test widths lo hi fine up)

@@ -7,6 +7,7 @@ pub mod Levels
 pub mod Parts
 pub mod IntervalTest
 pub mod InverseTest
+pub mod BranchwisePart
 pub mod PairTest
 pub mod ScanSpec
 pub mod Testing

@@ -1,5 +1,7 @@
 -- Tests of boxes that are made of others.
-use Rattle.std.specs.Prelude.{ℕ, ℤ, ◌-◌, Bool, ◌&&◌, ◌||◌, nat_le, if◌then◌else◌, Option, Some, None}
+use Rattle.std.specs.Prelude.{ℕ, ℤ, ◌-◌, Bool, false, ◌&&◌, ◌||◌, nat_le, if◌then◌else◌, Option, Some, None}
+use Rattle.study_model.specs.declared.words.Method.{Method}
+use Rattle.study_model.specs.declared.words.Method.TheVariants.{Elimination, Both, Branchwise}
 use Rattle.band_subdivision.specs.Boxes.{BoxTest}
 
 -- the first value, if there is one, else the second
@@ -14,13 +16,23 @@ either first second = record {
   above = λ lo hi. or_else (first.above lo hi) (second.above lo hi);
 }
 
--- whether a test that is asked near peaks is asked of this box: it is no wider than the width from which peaks are named
-abbrev pub is_near : Bool → ℕ → ℕ → ℕ → Bool
-is_near asked locate lo hi = asked && nat_le (hi - lo) locate
+-- a box is no wider than the width from which peaks are named
+abbrev pub is_near : ℕ → ℕ → ℕ → Bool
+is_near locate lo hi = nat_le (hi - lo) locate
 
--- a test on these boxes alone, where it is asked for at all; it says nothing of others
-abbrev pub where_near : Bool → ℕ → BoxTest → BoxTest
-where_near asked locate test = record {
-  clear = λ lo hi. is_near asked locate lo hi && test.clear lo hi;
-  above = λ lo hi. if is_near asked locate lo hi then test.above lo hi else None;
+-- a test on these boxes alone; it says nothing of others
+abbrev pub where_near : ℕ → BoxTest → BoxTest
+where_near locate test = record {
+  clear = λ lo hi. is_near locate lo hi && test.clear lo hi;
+  above = λ lo hi. if is_near locate lo hi then test.above lo hi else None;
 }
+
+-- the test that passes nowhere
+abbrev pub nowhere : BoxTest
+nowhere = record { clear = λ lo hi. false; above = λ lo hi. None }
+
+-- what a method asks where the elimination part doesn't pass: nothing, or the inverse part near peaks, or the branch-wise part
+abbrev pub second_part : Method → ℕ → BoxTest → BoxTest → BoxTest
+second_part Elimination locate inverse branchwise = nowhere
+second_part Both locate inverse branchwise = where_near locate inverse
+second_part Branchwise locate inverse branchwise = branchwise

@@ -22,7 +22,7 @@ levels_of spec lo hi = record { threshold = least_over (curve_points spec.curve)
 
 -- what is asked of its test
 abbrev pub asked_of : ScanSpec → Asked
-asked_of spec = record { levels = levels_of spec; both = spec.both; locate = spec.locate }
+asked_of spec = record { levels = levels_of spec; method = spec.method; locate = spec.locate }
 
 abbrev pub widths_of : ScanSpec → Widths
 widths_of spec = record { finest = spec.finest; locate = spec.locate }

@@ -1,5 +1,5 @@
 -- What is true of the boxes of a scan.
-use Rattle.std.specs.Prelude.{◌≡◌, ℕ, ◌-◌, ◌^◌, ◌≤◌, ◌<◌, ℤ, pos, negsuc, Bool, true, false, Option, Some}
+use Rattle.std.specs.Prelude.{◌≡◌, ℕ, ◌-◌, ◌^◌, ◌≤◌, ◌<◌, ℤ, pos, negsuc, true, false, Option, Some, Result, Ok}
 use Rattle.std.specs.List.{AllByRecursion}
 use Rattle.exact_algebra.specs.Ratio.{Ratio, over}
 use Rattle.exact_algebra.specs.Complex.{Complex, complex_difference, complex_over}
@@ -13,10 +13,14 @@ use Rattle.network_theory.specs.DrivingPoint.{IsDrivingPoint}
 use Rattle.network_theory.specs.Threshold.{Threshold}
 use Rattle.network_theory.specs.Scanned.{IsCleared, IsPeak}
 use Rattle.admittance_box.specs.HeldMatrix.{HoldsReduced}
+use Rattle.branchwise_test.specs.Enclosed.{Near}
+use Rattle.branchwise_test.specs.Holds.{IsNear}
+use Rattle.branchwise_test.specs.declared.fault.BranchwiseFault.{BranchwiseFault}
 use Rattle.band_subdivision.specs.Boxes.{BoxTest, above_at, IsTestable, Widths, boxes_of}
 use Rattle.band_subdivision.specs.Split.{NamesNoPeak}
 use Rattle.band_subdivision.specs.IntervalTest.{elimination_test}
 use Rattle.band_subdivision.specs.InverseTest.{inverse_test}
+use Rattle.band_subdivision.specs.BranchwisePart.{branchwise_part}
 use Rattle.band_subdivision.specs.Levels.{Levels, AreLevelsOf, orders}
 use Rattle.band_subdivision.specs.Parts.{either, where_near}
 use Rattle.scan_report.specs.declared.boxes.Kind.{Kind}
@@ -95,10 +99,20 @@ InverseTestIsSound =
     (scale from : ℕ) (threshold : Threshold) (kv mva : ℤ) (levels : ℕ → ℕ → Levels) (enclosed : ℕ → ℕ → InverseOutcome) (network : Network) (node : ℕ) → AreLevelsOf from threshold kv mva levels → EnclosesImpedance scale from enclosed network node
     → IsSound from (scanned_by threshold kv mva network node) (inverse_test scale levels enclosed)
 
+-- where there is an estimate over a box of orders, the impedance lies near it at every order in it
+pub record EstimatesImpedance (scale from : ℕ) (estimated : ℕ → ℕ → Result Near BranchwiseFault) (network : Network) (node : ℕ) : Type 0 where
+  pub at_each : (lo hi : ℕ) (near : Near) (h : Order) → IsTestable from lo hi → estimated lo hi ≡ Ok near → IsOrder h → LiesIn h (orders lo hi) → IsNear scale network h node near
+
+-- the branch-wise part is sound where the impedances lie near the estimates
+abbrev pub BranchwisePartIsSound : Type 0
+BranchwisePartIsSound =
+    (scale from : ℕ) (threshold : Threshold) (kv mva : ℤ) (levels : ℕ → ℕ → Levels) (estimated : ℕ → ℕ → Result Near BranchwiseFault) (network : Network) (node : ℕ) → AreLevelsOf from threshold kv mva levels → EstimatesImpedance scale from estimated network node
+    → IsSound from (scanned_by threshold kv mva network node) (branchwise_part scale levels estimated)
+
 -- a test that passes where one of two sound ones does is sound, and so is a sound one that is asked of some boxes alone
 pub record PartsAreSound : Type 0 where
   pub either : (from : ℕ) (s : Scanned) (first second : BoxTest) → IsSound from s first → IsSound from s second → IsSound from s (either first second)
-  pub near : (from : ℕ) (s : Scanned) (asked : Bool) (locate : ℕ) (test : BoxTest) → IsSound from s test → IsSound from s (where_near asked locate test)
+  pub near : (from : ℕ) (s : Scanned) (locate : ℕ) (test : BoxTest) → IsSound from s test → IsSound from s (where_near locate test)
 
 -- by a sound test, what each box of a band says is true
 abbrev pub BoxesAreTrue : Type 0

@@ -1,18 +1,21 @@
 // The boxes of a band of orders, one after another, by a test of boxes, and what they say of a network.
 #![tactic(auto)]
 
-ghost use Rattle.band_subdivision.specs.Truth.{EliminationTestIsSound, InverseTestIsSound, PartsAreSound, BoxesAreTrue};
+ghost use Rattle.band_subdivision.specs.Truth.{EliminationTestIsSound, InverseTestIsSound, BranchwisePartIsSound, PartsAreSound, BoxesAreTrue};
 ghost use Rattle.band_subdivision.specs.PairTruth.{PairTestIsSound};
 ghost use Rattle.band_subdivision.specs.BoxText.{BoxesHaveText};
 ghost use Rattle.band_subdivision.specs.WorkedBounds.{WorkedBounds};
 
 mod boxes;
+mod branchwise_part;
 mod interval_test;
 mod inverse_test;
 mod pair_test;
 mod scan;
 mod scan_levels;
 mod scan_spec;
+mod second_bench;
+mod size_test;
 mod stack;
 
 pub use scan::Scan;
@@ -27,6 +30,11 @@ pub fn elimination_test_is_sound()
 /// The inverse part is sound where the enclosures hold the impedances.
 pub fn inverse_test_is_sound()
     ensures law { InverseTestIsSound }
+{}
+
+/// The branch-wise part is sound where the impedances lie near the estimates.
+pub fn branchwise_part_is_sound()
+    ensures law { BranchwisePartIsSound }
 {}
 
 /// A test that is made of sound parts is sound.

@@ -1,21 +1,21 @@
 // The interval test of boxes, for a pair of networks that is driven at a node.
-ghost use Rattle.std.specs.Prelude.{◌≡◌, pos, ◌≤◌, ◌≤ℤ◌, Bool, ◌&&◌, if◌then◌else◌, is_some, IfSome, length, Some};
+ghost use Rattle.std.specs.Prelude.{◌≡◌, ◌≤◌, length};
 ghost use Rattle.std.specs.Option.{option_map};
 ghost use Rattle.exact_fraction.specs.Fraction.{ratio_of};
 ghost use Rattle.complex_interval.specs.Rect.{rectangle_of};
 ghost use Rattle.complex_interval.specs.Ends.{range_ends};
-ghost use Rattle.plain_elimination.specs.Pattern.{IsZeroOutside};
 ghost use Rattle.admittance_box.specs.Pattern.{IsPattern};
 ghost use Rattle.certified_inverse.specs.Sizes.{IsInRange};
-ghost use Rattle.certified_inverse.specs.declared.outcome.InverseOutcome.TheVariants.{OutOfRange};
 ghost use Rattle.band_subdivision.specs.Boxes.{IsTestable};
-ghost use Rattle.band_subdivision.specs.PairTest.{with_extra, reduced_rows, with_last, last_enclosure};
+ghost use Rattle.band_subdivision.specs.PairTest.{with_extra, value_with, with_last, last_enclosure, enclosure_with};
 ghost use Rattle.band_subdivision.specs.ScanSpec.{HasLevels, nothing};
-ghost use Rattle.band_subdivision.specs.Testing.{box_test, inverse_size};
+ghost use Rattle.band_subdivision.specs.Testing.{box_test, bench_for};
 
+use crate::branchwise_part::{is_within_near, ohms_over_near};
 use crate::interval_test::{bound_to_clear, bound_to_name, is_clear_of, ohms_of};
 use crate::inverse_test::{is_within, ohms_over};
 use crate::scan_spec::ScanSpec;
+use crate::second_bench::SecondBench;
 use admittance_box::{Assembly, Fill, order_range};
 use certified_inverse::{InverseBench, InverseOutcome};
 use complex_interval::{Enclosure, Rect};
@@ -26,15 +26,15 @@ use std::marker::Model;
 
 const NOTHING: Fraction = Fraction { num: 0, den: 1 };
 
-/// A test of boxes: by the reduced admittance of the driven node, and where that doesn't pass, by its enclosed impedance. It works
-/// in one matrix and on one bench for each part.
+/// A test of boxes: by the reduced admittance of the driven node, and where that doesn't pass, by what the method asks then: its
+/// enclosed impedance, or an estimate of it. It works in one matrix and on one bench for each part.
 #[derive(Drop)]
 pub struct PairTest<E: Enclosure> {
     spec: ScanSpec,
     assembly: Assembly<E>,
     matrix: Matrix<E>,
     bench: SparseBench<E>,
-    inverse: Option<InverseBench<E>>,
+    second: SecondBench<E>,
     extra: Fraction,
     susceptance: Option<E>,
 }
@@ -44,7 +44,7 @@ impl<E: Enclosure> Model for PairTest<E> {
     ghost use Rattle.std.specs.Option.{option_map};
     ghost use Rattle.exact_fraction.specs.Fraction.{ratio_of};
     ghost use Rattle.band_subdivision.specs.ScanSpec.{HasLevels};
-    ghost use Rattle.band_subdivision.specs.Testing.{Testing, AreParts, inverse_size};
+    ghost use Rattle.band_subdivision.specs.Testing.{Testing, AreParts, bench_for};
 
     ghost Value = { Testing };
 
@@ -59,7 +59,7 @@ impl<E: Enclosure> Model for PairTest<E> {
 
     ghost invariant = { λ t. HasLevels t.spec
         × AreParts E.SCALE t.assembly.ordering t.assembly.low.branches t.matrix t.bench (ratio_of t.extra) (option_map E.ends t.susceptance)
-        × (t.inverse ≡ inverse_size t.spec.both t.assembly.ordering) };
+        × (t.second ≡ bench_for E.SCALE t.spec.method t.assembly) };
 }
 
 impl<E: Enclosure> PairTest<E> {
@@ -69,13 +69,13 @@ impl<E: Enclosure> PairTest<E> {
         assembly: Assembly<E>,
         matrix: Matrix<E>,
         bench: SparseBench<E>,
-        inverse: Option<InverseBench<E>>,
+        second: SecondBench<E>,
     ) -> PairTest<E>
         requires levels { HasLevels spec }
         requires some { 1 ≤ length assembly.ordering }
         requires size { matrix.size ≡ length assembly.ordering }
         requires pattern { IsPattern assembly.ordering assembly.low.branches bench.size bench.places }
-        requires inverse { inverse ≡ inverse_size spec.both assembly.ordering }
+        requires second { second ≡ bench_for E.SCALE spec.method assembly }
         ensures { result ≡ record { spec = spec; low = assembly.low; high = assembly.high; driven = assembly.driven; ordering = assembly.ordering; extra = nothing } }
     {
         let susceptance = E::from_fraction(NOTHING);
@@ -84,7 +84,7 @@ impl<E: Enclosure> PairTest<E> {
             assembly,
             matrix,
             bench,
-            inverse,
+            second,
             extra: NOTHING,
             susceptance,
         }
@@ -111,25 +111,38 @@ impl<E: Enclosure> PairTest<E> {
         ensures value { result ≡ (box_test E.SCALE self.old).clear lo hi }
         ensures same { self.new ≡ self.old }
     {
-        match self.assembly.fill(lo, hi, &mut self.matrix) {
-            Fill::OutOfRange(_) => false,
-            Fill::Filled => {
-                let levels = self.spec.levels(lo, hi);
-                let susceptance = self.susceptance;
-                let y = admittance(&mut self.bench, &self.matrix, susceptance, lo, hi);
-                if is_clear_of(bound_to_clear::<E>(&levels), y) {
-                    return true;
+        let levels = self.spec.levels(lo, hi);
+        let y = admittance(
+            &mut self.assembly,
+            &mut self.matrix,
+            &mut self.bench,
+            self.susceptance,
+            lo,
+            hi,
+        );
+        if is_clear_of(bound_to_clear::<E>(&levels), y) {
+            return true;
+        }
+        match &mut self.second {
+            SecondBench::Nothing => false,
+            SecondBench::OfInverse(bench) => {
+                if hi - lo <= self.spec.locate {
+                    let z = impedance(
+                        bench,
+                        &mut self.assembly,
+                        &mut self.matrix,
+                        self.susceptance,
+                        lo,
+                        hi,
+                    );
+                    is_within(E::SCALE, &levels, z)
+                } else {
+                    false
                 }
-                let near = hi - lo <= self.spec.locate;
-                let z = impedance(
-                    &mut self.inverse,
-                    near,
-                    &mut self.matrix,
-                    susceptance,
-                    lo,
-                    hi,
-                );
-                is_within(E::SCALE, &levels, z)
+            }
+            SecondBench::OfDrops(bench) => {
+                let found = bench.estimate(self.extra, lo, hi);
+                is_within_near(&levels, found)
             }
         }
     }
@@ -140,72 +153,94 @@ impl<E: Enclosure> PairTest<E> {
         ensures value { result ≡ (box_test E.SCALE self.old).above lo hi }
         ensures same { self.new ≡ self.old }
     {
-        match self.assembly.fill(lo, hi, &mut self.matrix) {
-            Fill::OutOfRange(_) => None,
-            Fill::Filled => {
-                let levels = self.spec.levels(lo, hi);
-                let susceptance = self.susceptance;
-                let y = admittance(&mut self.bench, &self.matrix, susceptance, lo, hi);
-                let ohms = ohms_of(&levels, bound_to_name::<E>(&levels), y);
-                if ohms.is_some() {
-                    return ohms;
+        let levels = self.spec.levels(lo, hi);
+        let y = admittance(
+            &mut self.assembly,
+            &mut self.matrix,
+            &mut self.bench,
+            self.susceptance,
+            lo,
+            hi,
+        );
+        let ohms = ohms_of(&levels, bound_to_name::<E>(&levels), y);
+        if ohms.is_some() {
+            return ohms;
+        }
+        match &mut self.second {
+            SecondBench::Nothing => None,
+            SecondBench::OfInverse(bench) => {
+                if hi - lo <= self.spec.locate {
+                    let z = impedance(
+                        bench,
+                        &mut self.assembly,
+                        &mut self.matrix,
+                        self.susceptance,
+                        lo,
+                        hi,
+                    );
+                    ohms_over(E::SCALE, &levels, z)
+                } else {
+                    None
                 }
-                let near = hi - lo <= self.spec.locate;
-                let z = impedance(
-                    &mut self.inverse,
-                    near,
-                    &mut self.matrix,
-                    susceptance,
-                    lo,
-                    hi,
-                );
-                ohms_over(E::SCALE, &levels, z)
+            }
+            SecondBench::OfDrops(bench) => {
+                let found = bench.estimate(self.extra, lo, hi);
+                ohms_over_near(&levels, found)
             }
         }
     }
 }
 
-/// The reduced admittance of the driven node by a filled matrix, in per unit. None where a step has no value.
+/// The reduced admittance of the driven node over a box, in per unit, with that of a further susceptance. None where a step has no
+/// value.
 fn admittance<E: Enclosure>(
+    assembly: &mut Assembly<E>,
+    matrix: &mut Matrix<E>,
     bench: &mut SparseBench<E>,
-    matrix: &Matrix<E>,
     susceptance: Option<E>,
     lo: u32,
     hi: u32,
 ) -> Option<Rect<E>>
     requires ordered { lo ≤ hi }
-    requires size { bench.old.size ≡ matrix.now.size }
-    requires some { 1 ≤ matrix.now.size }
-    requires outside { IsZeroOutside bench.old.places matrix.now }
-    ensures value { option_map (rectangle_of E.ends) result ≡ reduced_rows E.SCALE (option_map E.ends susceptance) lo hi matrix.now.rows }
+    requires some { 1 ≤ length assembly.old.ordering }
+    requires size { matrix.old.size ≡ length assembly.old.ordering }
+    requires pattern { IsPattern assembly.old.ordering assembly.old.low.branches bench.old.size bench.old.places }
+    ensures value { option_map (rectangle_of E.ends) result ≡ value_with E.SCALE assembly.old.low assembly.old.high assembly.old.ordering (option_map E.ends susceptance) lo hi }
+    ensures assembly { assembly.new ≡ assembly.old }
+    ensures matrix { matrix.new.size ≡ matrix.old.size }
     ensures bench { bench.new ≡ bench.old }
 {
-    match bench.reduce(matrix) {
-        Ok(y) => add_extra(y, susceptance, lo, hi),
-        Err(_) => None,
+    match assembly.fill(lo, hi, matrix) {
+        Fill::OutOfRange(_) => None,
+        Fill::Filled => match bench.reduce(matrix) {
+            Ok(y) => add_extra(y, susceptance, lo, hi),
+            Err(_) => None,
+        },
     }
 }
 
-/// The enclosed impedance of the driven node by a filled matrix, whose last entry it changes; nothing where that isn't asked.
+/// The enclosed impedance of the driven node over a box, with a further susceptance there.
 fn impedance<E: Enclosure>(
-    inverse: &mut Option<InverseBench<E>>,
-    near: bool,
+    bench: &mut InverseBench<E>,
+    assembly: &mut Assembly<E>,
     matrix: &mut Matrix<E>,
     susceptance: Option<E>,
     lo: u32,
     hi: u32,
 ) -> InverseOutcome
     requires ordered { lo ≤ hi }
-    requires some { 1 ≤ matrix.old.size }
-    requires size { IfSome inverse.old (λ size. size ≡ matrix.old.size) }
-    ensures value { result ≡ (if is_some inverse.old && near then last_enclosure E.SCALE (with_last E.SCALE (option_map E.ends susceptance) lo hi matrix.old.rows) else OutOfRange) }
+    requires some { 1 ≤ length assembly.old.ordering }
+    requires size { matrix.old.size ≡ length assembly.old.ordering }
+    requires same { bench.old ≡ length assembly.old.ordering }
+    ensures value { result ≡ enclosure_with E.SCALE assembly.old.low assembly.old.high assembly.old.ordering (option_map E.ends susceptance) lo hi }
     ensures sizes { IsInRange result }
+    ensures assembly { assembly.new ≡ assembly.old }
     ensures matrix { matrix.new.size ≡ matrix.old.size }
-    ensures inverse { inverse.new ≡ inverse.old }
+    ensures bench { bench.new ≡ bench.old }
 {
-    match inverse {
-        Some(bench) if near => enclosed(bench, matrix, susceptance, lo, hi),
-        _ => InverseOutcome::OutOfRange,
+    match assembly.fill(lo, hi, matrix) {
+        Fill::OutOfRange(_) => InverseOutcome::OutOfRange,
+        Fill::Filled => enclosed(bench, matrix, susceptance, lo, hi),
     }
 }
 

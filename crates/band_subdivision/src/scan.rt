@@ -1,5 +1,5 @@
 // A scan of a band of orders at a node of a network, or of a pair of networks.
-ghost use Rattle.std.specs.Prelude.{◌≡◌, pos, ◌≤◌, ◌≤ℤ◌, true, [], ◌∷◌, map, length, Some, None, if◌then◌else◌, IfOk, IfSome, IfNone};
+ghost use Rattle.std.specs.Prelude.{◌≡◌, pos, ◌≤◌, ◌≤ℤ◌, true, [], ◌∷◌, map, length, IfOk, IfSome, IfNone};
 ghost use Rattle.exact_fraction.specs.Fraction.{ratio_of};
 ghost use Rattle.network_theory.specs.Between.{IsPair};
 ghost use Rattle.network_theory.specs.Box.{Covers};
@@ -12,15 +12,14 @@ ghost use Rattle.band_subdivision.specs.Cover.{span_of};
 ghost use Rattle.band_subdivision.specs.PairTruth.{IsClearForEach, IsAboveForEach, IsTrueForEach};
 ghost use Rattle.band_subdivision.specs.Scan.{IsScanOf, test_of, whole_list};
 ghost use Rattle.band_subdivision.specs.ScanSpec.{IsScanSpec};
-ghost use Rattle.band_subdivision.specs.Testing.{inverse_size};
-ghost use Rattle.plain_elimination.specs.declared.limits.TheConstants.{MAX_SIZE};
+ghost use Rattle.band_subdivision.specs.Testing.{bench_for};
 
 use crate::boxes::settle;
 use crate::pair_test::PairTest;
 use crate::scan_spec::{ScanSpec, Tested};
+use crate::second_bench::{SecondBench, new_bench};
 use crate::stack::Stack;
 use admittance_box::Assembly;
-use certified_inverse::InverseBench;
 use complex_interval::Enclosure;
 use exact_fraction::Fraction;
 use net_branch::{Network, NodeId};
@@ -65,35 +64,19 @@ fn scan_by<E: Enclosure>(
     assembly: Assembly<E>,
     matrix: Matrix<E>,
     bench: SparseBench<E>,
-    inverse: Option<InverseBench<E>>,
+    second: SecondBench<E>,
 ) -> Scan<E>
     requires spec { IsScanSpec spec }
     requires ready { CanAssemble assembly.low assembly.high assembly.driven assembly.ordering }
     requires size { matrix.size ≡ length assembly.ordering }
     requires pattern { IsPattern assembly.ordering assembly.low.branches bench.size bench.places }
-    requires inverse { inverse ≡ inverse_size spec.both assembly.ordering }
+    requires second { second ≡ bench_for E.SCALE spec.method assembly }
     ensures { IsScanOf E.SCALE assembly.low assembly.high assembly.driven spec result }
 {
     let stack = Stack::new(spec.from, spec.to);
     Scan {
-        test: PairTest::new(spec, assembly, matrix, bench, inverse),
+        test: PairTest::new(spec, assembly, matrix, bench, second),
         stack,
-    }
-}
-
-/// A bench for inverses, where they are asked for.
-fn inverse_bench<E: Enclosure>(
-    alloc: Global,
-    both: bool,
-    size: u32,
-) -> Result<Option<InverseBench<E>>, AllocError>
-    requires { size ≤ MAX_SIZE }
-    ensures { IfOk result (λ bench. bench ≡ (if both then Some size else None)) }
-{
-    if both {
-        Ok(Some(InverseBench::new(alloc, size)?))
-    } else {
-        Ok(None)
     }
 }
 
@@ -118,8 +101,8 @@ impl<E: Enclosure> Scan<E> {
         let assembly = Assembly::between(alloc, low, high, driven)?;
         let matrix = Matrix::new(alloc, assembly.size())?;
         let bench = SparseBench::new(alloc, &assembly.pattern(alloc)?)?;
-        let inverse = inverse_bench(alloc, spec.both, assembly.size())?;
-        Ok(scan_by(spec, assembly, matrix, bench, inverse))
+        let second = new_bench(alloc, spec.method, &assembly)?;
+        Ok(scan_by(spec, assembly, matrix, bench, second))
     }
 
     /// The scan of a network: the one between it and itself.

@@ -6,7 +6,7 @@ ghost use Rattle.band_subdivision.specs.ScanSpec.{HasLevels, levels_of};
 
 use crate::scan_levels::ScanLevels;
 use fixed_decimal::Decimal;
-use study_model::Curve;
+use study_model::{Curve, Method};
 use threshold_curve::least_over;
 
 /// The band of a scan, how far it is split, and what the impedance is compared with.
@@ -18,7 +18,7 @@ pub struct ScanSpec {
     pub to: u32,
     /// The width in micro-orders down to which boxes are split: in `Range::FINEST`, and `MAX_WIDTHS` of them are as wide as the band.
     pub finest: u32,
-    /// The width in micro-orders from which on peaks are named and the certified inverse is tried: in `Range::LOCATE`, and at least `finest`.
+    /// The width in micro-orders from which on peaks are named and, by `Method::Both`, the certified inverse is tried: in `Range::LOCATE`, and at least `finest`.
     pub locate: u32,
     /// The threshold over the orders: a lawful curve that spans the band.
     pub curve: Curve,
@@ -26,8 +26,8 @@ pub struct ScanSpec {
     pub kv: Decimal,
     /// The base power, in MVA: in `Range::BASE_MVA`.
     pub mva: Decimal,
-    /// Whether the certified inverse is tried too, where elimination doesn't pass.
-    pub both: bool,
+    /// What is tried where elimination doesn't pass: nothing, the certified inverse, or the estimate branch by branch.
+    pub method: Method,
 }
 
 impl ScanSpec {

@@ -38,13 +38,13 @@ more_wholes m n k l = let z : (pos k *ℤ pos m) ≤ℤ (pos k *ℤ pos n) = mul
 next_most : (a b c : ℤ) → a ≤ℤ b → b ≤ℤ c → a ≤ℤ c
 next_most a b c h k = omega (arith, ints)
 
-square_most : (s r n : ℕ) (q : Complex) → IsAtLeastSquare s n q → n ≤ r * r → IsAtMost q (units s r)
+pub square_most : (s r n : ℕ) (q : Complex) → IsAtLeastSquare s n q → n ≤ r * r → IsAtMost q (units s r)
 square_most s r n q h l = record { cross = rw (den-times (units s r) (units s r), num-times (units s r) (units s r), den-units s r) (by (square_size q) (subst (λ z. ((square_size q).num *ℤ z) ≤ℤ (pos n *ℤ den (square_size q))) (four s) h)) }
   where
     by : (x : Ratio) → (x.num *ℤ (pos (2 ^ s) *ℤ pos (2 ^ s))) ≤ℤ (pos n *ℤ den x) → (x.num *ℤ (pos (2 ^ s) *ℤ pos (2 ^ s))) ≤ℤ ((pos r *ℤ pos r) *ℤ den x)
     by x a = next_most _ _ _ a (rw (den_is x) (more_wholes n (r * r) (suc x.den_less_one) l))
 
-square_least : (s r n : ℕ) (q : Complex) → IsAtMostSquare s n q → r * r ≤ n → IsAtLeast q (units s r)
+pub square_least : (s r n : ℕ) (q : Complex) → IsAtMostSquare s n q → r * r ≤ n → IsAtLeast q (units s r)
 square_least s r n q h l = record { cross = rw (den-times (units s r) (units s r), num-times (units s r) (units s r), den-units s r) (by (square_size q) (subst (λ z. (pos n *ℤ den (square_size q)) ≤ℤ ((square_size q).num *ℤ z)) (four s) h)) }
   where
     by : (x : Ratio) → (pos n *ℤ den x) ≤ℤ (x.num *ℤ (pos (2 ^ s) *ℤ pos (2 ^ s))) → ((pos r *ℤ pos r) *ℤ den x) ≤ℤ (x.num *ℤ (pos (2 ^ s) *ℤ pos (2 ^ s)))

@@ -1,5 +1,5 @@
 -- The boxes of a scan.
-use Rattle.std.specs.Prelude.{ℕ, unsigned_abs, Bool, true, false, List}
+use Rattle.std.specs.Prelude.{ℕ, unsigned_abs, List}
 use Rattle.network_theory.specs.Network.{Network}
 use Rattle.network_theory.specs.Reach.{is_live}
 use Rattle.admittance_box.specs.Places.{node_ordering}
@@ -10,15 +10,8 @@ use Rattle.band_subdivision.specs.PairTest.{pair_test}
 use Rattle.band_subdivision.specs.ScanSpec.{asked_of, widths_of, nothing}
 use Rattle.band_subdivision.specs.declared.scan_spec.ScanSpec.{ScanSpec}
 use Rattle.scan_report.specs.declared.boxes.BoxRow.{BoxRow}
-use Rattle.study_model.specs.declared.words.Method.{Method}
-use Rattle.study_model.specs.declared.words.Method.TheVariants as method
 use Rattle.study_model.specs.declared.records.ScanItem.{ScanItem}
 use Rattle.study_model.specs.declared.records.Study.{Study}
-
--- whether the certified inverse is asked too
-abbrev pub is_both : Method → Bool
-is_both method.Elimination = false
-is_both method.Both = true
 
 -- what a scan of a study is asked
 abbrev pub spec_of : Study → ScanItem → ScanSpec
@@ -30,7 +23,7 @@ spec_of study scan = record {
   curve = scan.curve;
   kv = kv_of study.buses scan.bus;
   mva = study.mva;
-  both = is_both study.method;
+  method = study.method;
 }
 
 -- the live nodes of a network, inner ones before those of buses, and the scanned one last

@@ -6,7 +6,7 @@ ghost use Rattle.study_reader.specs.Built.{IsBuilt};
 ghost use Rattle.sequence_network.specs.Built.{IsNetworkOf};
 ghost use Rattle.sequence_network.specs.Networks.{network_of};
 ghost use Rattle.sequence_network.specs.Refusals.{HasLiveNetworks};
-ghost use Rattle.harmscan_core.specs.Scan.{is_both, spec_of, boxes_in};
+ghost use Rattle.harmscan_core.specs.Scan.{spec_of, boxes_in};
 ghost use Rattle.harmscan_core.specs.Plan.{CanScan, IsPlan, network_at, AreNetworksOf};
 
 use crate::plan::PlannedScan;
@@ -18,7 +18,7 @@ use net_branch::{Network, NodeId};
 use sequence_network::Networks;
 use std::alloc::{AllocError, Global};
 use std::collections::VecDeque;
-use study_model::{Method, ScanItem, Sequence, Study};
+use study_model::{ScanItem, Sequence, Study};
 
 /// Micro-orders, as a whole number.
 pub fn micro(order: Decimal) -> u32
@@ -27,16 +27,6 @@ pub fn micro(order: Decimal) -> u32
     ensures { result ≡ unsigned_abs order }
 {
     order.millionths as u32
-}
-
-/// Whether the certified inverse is asked too.
-fn is_both(method: Method) -> bool
-    ensures { result ≡ is_both method }
-{
-    match method {
-        Method::Elimination => false,
-        Method::Both => true,
-    }
 }
 
 /// What a scan is asked.
@@ -52,7 +42,7 @@ fn spec_of(study: &Study, scan: &ScanItem) -> ScanSpec
         curve: scan.curve,
         kv: kv(study, scan.bus),
         mva: study.mva,
-        both: is_both(study.method),
+        method: study.method,
     }
 }
 

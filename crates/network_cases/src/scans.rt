@@ -18,7 +18,7 @@ use scan_report::Kind;
 use std::alloc::Global;
 use std::process::Abort;
 use std::test::Fail;
-use study_model::{Curve, CurvePoint};
+use study_model::{Curve, CurvePoint, Method};
 
 // A bus behind a coil of this resistance.
 fn one_bus(alloc: Global, r: Fraction) -> Result<Network, Fail>
@@ -28,15 +28,14 @@ fn one_bus(alloc: Global, r: Fraction) -> Result<Network, Fail>
     network_of(alloc, 1, &[coil(0, r)])
 }
 
-// A band in micro-orders, its finest and its locating width, the threshold in micro-ohms at each end of the band, and whether the
-// inverse is asked too.
+// A band in micro-orders, its finest and its locating width, the threshold in micro-ohms at each end of the band, and the method.
 #[derive(Clone, Copy)]
 struct Asked {
     band: [u32; 2],
     finest: u32,
     locate: u32,
     ohms: [u64; 2],
-    both: bool,
+    method: Method,
 }
 
 // A lawful curve of two points.
@@ -85,7 +84,7 @@ fn spec_of(asked: Asked) -> Result<ScanSpec, Fail>
         mva: Decimal {
             millionths: 100_000_000,
         },
-        both: asked.both,
+        method: asked.method,
     })
 }
 
@@ -166,7 +165,7 @@ const COIL: Asked = Asked {
     finest: 1_000,
     locate: 5_000_000,
     ohms: [500_000, 500_000],
-    both: false,
+    method: Method::Elimination,
 };
 
 // |Z| = h ohms.
@@ -203,27 +202,31 @@ fn a_coil_is_above_at_both_middles(rt: HostRuntime) -> Result<(), Fail> {
 }
 
 // At the order 5 the admittance of node 0 is zero, and so is the impedance of node 1.
-const fn about_five(both: bool) -> Asked {
+const fn about_five(method: Method) -> Asked {
     Asked {
         band: [4_990_000, 5_010_000],
         finest: 20_000,
         locate: 20_000,
         ohms: [20_000_000, 20_000_000],
-        both,
+        method,
     }
 }
 
 #[test]
-fn the_inverse_decides_where_a_pivot_holds_zero(rt: HostRuntime) -> Result<(), Fail> {
+fn the_second_part_decides_where_a_pivot_holds_zero(rt: HostRuntime) -> Result<(), Fail> {
     let network = two_buses(rt.alloc())?;
-    for (both, kind) in [(false, Kind::Undecided), (true, Kind::Cleared)] {
+    for (method, kind) in [
+        (Method::Elimination, Kind::Undecided),
+        (Method::Both, Kind::Cleared),
+        (Method::Branchwise, Kind::Cleared),
+    ] {
         let rows = [(4_990_000, 5_010_000, kind)];
         expect_scan::<Span<40>>(
             &rt,
             rt.alloc(),
             &network,
             1,
-            about_five(both),
+            about_five(method),
             rows.as_slice(),
         )?;
         expect_scan::<Span<48>>(
@@ -231,7 +234,7 @@ fn the_inverse_decides_where_a_pivot_holds_zero(rt: HostRuntime) -> Result<(), F
             rt.alloc(),
             &network,
             1,
-            about_five(both),
+            about_five(method),
             rows.as_slice(),
         )?;
     }
@@ -324,7 +327,7 @@ fn a_resonance_with_an_extra_bank(rt: HostRuntime) -> Result<(), Fail> {
         finest: 125_000,
         locate: 500_000,
         ohms: [20_000_000, 20_000_000],
-        both: false,
+        method: Method::Elimination,
     };
     let mut scan = scan_of(rt.alloc(), &network, 0, asked)?;
     expect_boxes(&rt, &mut scan, WITHOUT_A_BANK.as_slice());
@@ -384,7 +387,7 @@ const fn near(threshold: u64) -> Asked {
         finest: 1_000,
         locate: 1_000,
         ohms: [threshold, threshold],
-        both: false,
+        method: Method::Elimination,
     }
 }
 
@@ -418,8 +421,8 @@ fn single_orders(rt: HostRuntime) -> Result<(), Fail> {
             NEITHER,
         ),
     ] {
-        for both in [false, true] {
-            let asked = Asked { both, ..asked };
+        for method in [Method::Elimination, Method::Both, Method::Branchwise] {
+            let asked = Asked { method, ..asked };
             expect(
                 &rt,
                 tested(&rt, rt.alloc(), &network, 0, asked, extra, order)?,
@@ -431,10 +434,34 @@ fn single_orders(rt: HostRuntime) -> Result<(), Fail> {
     Ok(())
 }
 
+// What each method says of an order at node 2 of a network, against so many micro-ohms and with an extra susceptance.
+fn expect_tested(
+    rt: &impl Abort,
+    alloc: Global,
+    network: &Network,
+    methods: &[Method],
+    asked: (&str, u64, Option<Fraction>),
+    wanted: Tested,
+) -> Result<(), Fail>
+    requires whole { IsWholeNetwork network.now }
+    requires no_group { HasNoGroup (exact_network network.now) }
+{
+    let (label, ohms, extra) = asked;
+    for method in methods {
+        let asked = Asked {
+            ohms: [ohms, ohms],
+            ..about_five(*method)
+        };
+        let found = tested(rt, alloc, network, 2, asked, extra, 5_000_000)?;
+        expect(rt, found, wanted, label);
+    }
+    Ok(())
+}
+
 // A coil from node 1 to a third node: at the order 5 there are 5 ohms there, since node 1 has none, and 10 with a bank of 1/50. An
-// enclosure is less than a micro-ohm off.
+// enclosure or an estimate is less than a micro-ohm off.
 #[test]
-fn the_inverse_names_a_peak_where_a_pivot_holds_zero(rt: HostRuntime) -> Result<(), Fail> {
+fn a_peak_where_a_pivot_holds_zero(rt: HostRuntime) -> Result<(), Fail> {
     let parts = [
         coil(1, ZERO),
         tie(0, ONE, 1),
@@ -443,31 +470,26 @@ fn the_inverse_names_a_peak_where_a_pivot_holds_zero(rt: HostRuntime) -> Result<
     ];
     let network = network_of(rt.alloc(), 3, parts.as_slice())?;
     let fiftieth = Fraction { num: 1, den: 50 };
-    for (label, both, ohms, extra, wanted) in [
-        ("elimination alone", false, 4_000_000, None, NEITHER),
-        ("above", true, 4_000_000, None, above(4_999_999)),
-        ("within", true, 6_000_000, None, CLEAR),
+    let alone = ("elimination alone", 4_000_000, None);
+    expect_tested(
+        &rt,
+        rt.alloc(),
+        &network,
+        &[Method::Elimination],
+        alone,
+        NEITHER,
+    )?;
+    for (asked, wanted) in [
+        (("above", 4_000_000, None), above(4_999_999)),
+        (("within", 6_000_000, None), CLEAR),
         (
-            "with a bank",
-            true,
-            6_000_000,
-            Some(fiftieth),
+            ("above with a bank", 6_000_000, Some(fiftieth)),
             above(9_999_999),
         ),
-        (
-            "within with a bank",
-            true,
-            11_000_000,
-            Some(fiftieth),
-            CLEAR,
-        ),
+        (("within with a bank", 11_000_000, Some(fiftieth)), CLEAR),
     ] {
-        let asked = Asked {
-            ohms: [ohms, ohms],
-            ..about_five(both)
-        };
-        let found = tested(&rt, rt.alloc(), &network, 2, asked, extra, 5_000_000)?;
-        expect(&rt, found, wanted, label);
+        let methods = [Method::Both, Method::Branchwise];
+        expect_tested(&rt, rt.alloc(), &network, &methods, asked, wanted)?;
     }
     Ok(())
 }

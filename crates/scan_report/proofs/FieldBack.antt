@@ -6,7 +6,7 @@ use Rattle.std.specs.Fmt.{decimal}
 use Rattle.study_model.specs.NameText.{is_name}
 use Rattle.study_model.specs.ValueWords.{method_text}
 use Rattle.study_model.specs.declared.words.Method.{Method}
-use Rattle.study_model.specs.declared.words.Method.TheVariants.{Elimination, Both}
+use Rattle.study_model.specs.declared.words.Method.TheVariants.{Elimination, Both, Branchwise}
 use Rattle.scan_report.specs.declared.rows.NetWord.{NetWord}
 use Rattle.scan_report.specs.declared.rows.NetWord.TheVariants.{Positive, Zero, A, B, C}
 use Rattle.scan_report.specs.declared.rows.BoxWord.{BoxWord}
@@ -97,6 +97,7 @@ method_back : (m : Method) → method_in (method_text m) ≡ m
 unfolding method_in
 method_back Elimination = refl
 method_back Both = refl
+method_back Branchwise = refl
 
 -- each kind of field has no byte that ends one
 inner_net : (w : NetWord) → Inner (net_word w)
@@ -114,6 +115,7 @@ inner_box_word Undecided = record { is = refl }
 inner_method : (m : Method) → Inner (method_text m)
 inner_method Elimination = record { is = refl }
 inner_method Both = record { is = refl }
+inner_method Branchwise = record { is = refl }
 
 inner_order : (at : Option ℕ) → IsShort at → Inner (order_or_dash at)
 inner_order None h = record { is = refl }

@@ -3,7 +3,7 @@ use Rattle.std.specs.Prelude.{ℕ, zero, suc, ◌+◌, ◌-◌, ◌*◌, ◌^◌
 use Rattle.std.specs.List.{prefix_len, fold}
 use Rattle.study_model.specs.NameText.{is_name}
 use Rattle.study_model.specs.declared.words.Method.{Method}
-use Rattle.study_model.specs.declared.words.Method.TheVariants.{Elimination, Both}
+use Rattle.study_model.specs.declared.words.Method.TheVariants.{Elimination, Both, Branchwise}
 use Rattle.scan_report.specs.declared.rows.NetWord.{NetWord}
 use Rattle.scan_report.specs.declared.rows.NetWord.TheVariants.{Positive, Zero, A, B, C}
 use Rattle.scan_report.specs.declared.rows.BoxWord.{BoxWord}
@@ -71,7 +71,7 @@ unfoldable pub box_word_of : List ℕ → BoxWord
 box_word_of text = if first_of text == 99 then Cleared else (if first_of text == 112 then Peak else Undecided)
 
 unfoldable pub method_in : List ℕ → Method
-method_in text = if first_of text == 101 then Elimination else Both
+method_in text = if first_of text == 101 then Elimination else (if second_of text == 111 then Both else Branchwise)
 
 unfoldable pub scan_of : List ℕ → Row
 scan_of x = Scan (name_in (field_at 1 x)) (name_in (field_at 2 x)) (net_of (field_at 3 x)) (short_of (field_at 4 x)) (short_of (field_at 5 x))

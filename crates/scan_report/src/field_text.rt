@@ -184,8 +184,11 @@ pub(crate) fn box_word_of(text: &[u8]) -> BoxWord
 pub(crate) fn method_in(text: &[u8]) -> Method
     ensures { result ≡ method_in text.now }
 {
-    match first_of(text) {
-        b'e' => Method::Elimination,
-        _ => Method::Both,
+    if first_of(text) == b'e' {
+        return Method::Elimination;
+    }
+    match second_of(text) {
+        b'o' => Method::Both,
+        _ => Method::Branchwise,
     }
 }

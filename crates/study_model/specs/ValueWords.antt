@@ -34,10 +34,11 @@ study_model_of text = named study_model_text (study_model.Sequence ∷ study_mod
 abbrev pub method_text : Method → List ℕ
 method_text method.Elimination = codes "elimination"
 method_text method.Both = codes "both"
+method_text method.Branchwise = codes "branchwise"
 
 -- the method whose word a text is
 abbrev pub method_of : List ℕ → Option Method
-method_of text = named method_text (method.Elimination ∷ method.Both ∷ []) text
+method_of text = named method_text (method.Elimination ∷ method.Both ∷ method.Branchwise ∷ []) text
 
 -- the word of each sequence network
 abbrev pub sequence_text : Sequence → List ℕ

@@ -36,8 +36,12 @@ impl StudyModel {
 /// How a box of orders is tested.
 #[derive(Clone, Copy, Debug, PartialEq, Eq)]
 pub enum Method {
+    /// By elimination alone.
     Elimination,
+    /// By elimination, and near peaks by a certified inverse too.
     Both,
+    /// By elimination, and branch by branch.
+    Branchwise,
 }
 
 impl Method {
@@ -51,6 +55,7 @@ impl Method {
         match self {
             Method::Elimination => "elimination",
             Method::Both => "both",
+            Method::Branchwise => "branchwise",
         }
     }
 
@@ -61,6 +66,7 @@ impl Method {
         match text {
             "elimination" => Some(Method::Elimination),
             "both" => Some(Method::Both),
+            "branchwise" => Some(Method::Branchwise),
             _ => None,
         }
     }

@@ -4,6 +4,8 @@
 #[cfg(test)]
 mod answers;
 #[cfg(test)]
+mod branchwise;
+#[cfg(test)]
 mod curve_refusals;
 #[cfg(test)]
 mod curves;

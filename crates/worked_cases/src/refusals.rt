@@ -48,7 +48,7 @@ pub const DOCUMENTS: [(&str, &str); 12] = [
 ];
 
 /// The entries of the table `study`, before one bus.
-pub const HEADERS: [(&str, &str); 33] = [
+pub const HEADERS: [(&str, &str); 34] = [
     ("mva = 100", "3 MissingKey study 1 version"),
     ("version = 3, mva = 100", "2 VersionUnknown"),
     ("version = 0", "2 VersionUnknown"),
@@ -109,6 +109,10 @@ pub const HEADERS: [(&str, &str); 33] = [
     ),
     (
         "version = 1, mva = 100, method = \"inverse\"",
+        "5 WrongKind study 1 method",
+    ),
+    (
+        "version = 1, mva = 100, method = \"branch-wise\"",
         "5 WrongKind study 1 method",
     ),
     (

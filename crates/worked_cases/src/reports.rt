@@ -1,6 +1,8 @@
 // Reports, through the program.
-use crate::answers::{Answer, SCAN, assert_answer, assert_long_report, assert_reports, joined};
-use crate::{curves, networks, studies};
+use crate::answers::{
+    Answer, SCAN, assert_answer, assert_long_report, assert_reports, joined, shelf_with,
+};
+use crate::{branchwise, curves, networks, studies};
 use harm_io::SteadyShelf;
 use std::test::Fail;
 
@@ -91,5 +93,39 @@ fn an_industrial_plant(rt: HostRuntime) -> Result<(), Fail> {
         networks::INDUSTRIAL_BOTH_END,
     );
     assert_long_report(&rt, rt.alloc(), &study, ends, 0)?;
+    Ok(())
+}
+
+#[test]
+fn reports_branch_by_branch(rt: HostRuntime) -> Result<(), Fail> {
+    let cases = [
+        (branchwise::COIL_BELOW, branchwise::COIL_BELOW_REPORT, 0),
+        (branchwise::COIL_ABOVE, branchwise::COIL_ABOVE_REPORT, 3),
+        (
+            branchwise::COIL_CROSSING,
+            branchwise::COIL_CROSSING_REPORT,
+            3,
+        ),
+        (branchwise::RESONANCE, branchwise::RESONANCE_REPORT, 3),
+        (branchwise::SHARP, branchwise::SHARP_REPORT, 3),
+        (branchwise::FILTERED, branchwise::FILTERED_REPORT, 3),
+        (branchwise::FAR, branchwise::FAR_REPORT, 0),
+    ];
+    assert_reports(&rt, rt.alloc(), &cases)
+}
+
+// Elimination leaves 16 of 534 boxes of the plant undecided.
+#[test]
+fn the_plant_branch_by_branch(rt: HostRuntime) -> Result<(), Fail> {
+    let answer = Answer {
+        status: 0,
+        out: branchwise::PLANT_REPORT,
+        err: "",
+    };
+    for header in branchwise::PLANT_HEADERS {
+        let study = joined(rt.alloc(), &[header, networks::INDUSTRIAL])?;
+        let mut shelf = shelf_with(rt.alloc(), study.as_bytes())?;
+        assert_answer(&rt, rt.alloc(), &SCAN, &mut shelf, &answer)?;
+    }
     Ok(())
 }

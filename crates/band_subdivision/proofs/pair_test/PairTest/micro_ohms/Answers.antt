@@ -1,44 +1,41 @@
-use Rattle.std.proofs.Common.{◌∙◌, ap, refl, sym}
+use Rattle.std.proofs.Common.{◌∙◌, sym}
 use Rattle.std.specs.Option.{option_map}
-use Rattle.std.specs.Result.{result_ok}
 use Rattle.complex_interval.specs.Rect.{rectangle_of}
+use Rattle.branchwise_bench.specs.Near.{near_of}
+use Rattle.branchwise_bench.specs.Results.{result_of}
 use Rattle.exact_fraction.specs.Fraction.{ratio_of}
 use Rattle.band_subdivision.specs.Levels.{levels_in}
 use Rattle.band_subdivision.specs.ScanSpec.{asked_of}
-use Rattle.band_subdivision.proofs.Benches.{suits}
-use Rattle.band_subdivision.proofs.Filled.{unfilled_above, above_first, above_second}
+use Rattle.band_subdivision.proofs.Filled.{above_first, above_second, nothing_above, far_above, inverse_above, drops_above}
 use Rattle.band_subdivision.proofs.pair_test.PairTest.micro_ohms.Goals as goal
-
-pub admittance-y-requires-clause-outside : goal.admittance-y-requires-clause-outside
-admittance-y-requires-clause-outside g c =
-    let a = c.self.inside.assembly in
-    suits g.E.Enclosure.SCALE a.low a.high a.ordering c.args.lo c.args.hi c.fill.new.matrix c.self.inside.bench (c.fill.ensures.size ∙ c.self.invariant.1.size) c.self.invariant.1.pattern c.in-Filled.ensures.stated
-
-pub returns-in-OutOfRange-clause-value : goal.returns-in-OutOfRange-clause-value
-returns-in-OutOfRange-clause-value g c =
-    let s = g.E.Enclosure.SCALE in
-    let t = c.self.inside in
-    let a = t.assembly in
-    rw (← c.self.view_is) (unfilled_above s (asked_of t.spec) a.low a.high a.ordering (ratio_of t.extra) c.args.lo c.args.hi (ap result_ok c.in-OutOfRange.ensures.stated))
 
 pub returns-then-is_some-clause-value : goal.returns-then-is_some-clause-value
 returns-then-is_some-clause-value g c =
-    let s = g.E.Enclosure.SCALE in
     let t = c.self.inside in
-    let a = t.assembly in
-    rw (← c.self.view_is)
-    (above_first s (asked_of t.spec) a.low a.high a.ordering (ratio_of t.extra) c.args.lo c.args.hi c.fill.new.matrix.rows (levels_in c.levels-levels.result) (option_map g.E.Enclosure.ends t.susceptance)
-    (option_map (rectangle_of g.E.Enclosure.ends) c.admittance-y.result) (ap result_ok c.in-Filled.ensures.stated) c.levels-levels.ensures.value c.self.invariant.1.is c.admittance-y.ensures.value
-    c.bound_to_name.result c.ohms_of-ohms.result c.bound_to_name.ensures c.ohms_of-ohms.ensures (sym c.is_some.ensures ∙ c.if-is_some.true))
+    rw (← c.self.view_is) (above_first g.E.Enclosure.SCALE (asked_of t.spec) t.assembly (ratio_of t.extra) c.args.lo c.args.hi (levels_in c.levels-levels.result) c.levels-levels.ensures.value (option_map g.E.Enclosure.ends t.susceptance) c.self.invariant.1.is (option_map (rectangle_of g.E.Enclosure.ends) c.admittance-y.result) c.admittance-y.ensures.value c.bound_to_name.result c.ohms_of-ohms.result c.bound_to_name.ensures c.ohms_of-ohms.ensures (sym c.is_some.ensures ∙ c.if-is_some.true))
 
-pub returns-else-is_some-clause-value : goal.returns-else-is_some-clause-value
-returns-else-is_some-clause-value g c =
-    let told = rw c.SCALE.ensures at c.ohms_over.ensures in
-    let s = g.E.Enclosure.SCALE in
+pub returns-in-Nothing-clause-value : goal.returns-in-Nothing-clause-value
+returns-in-Nothing-clause-value g c =
     let t = c.self.inside in
-    let a = t.assembly in
-    rw (← c.self.view_is)
-    (above_second s (asked_of t.spec) a.low a.high a.ordering (ratio_of t.extra) c.args.lo c.args.hi c.fill.new.matrix.rows (levels_in c.levels-levels.result) (option_map g.E.Enclosure.ends t.susceptance)
-    (option_map (rectangle_of g.E.Enclosure.ends) c.admittance-y.result) (ap result_ok c.in-Filled.ensures.stated) c.levels-levels.ensures.value c.self.invariant.1.is c.admittance-y.ensures.value
-    t.inverse _ c.impedance-z.result c.self.invariant.2 refl c.impedance-z.ensures.value
-    c.bound_to_name.result c.ohms_of-ohms.result c.ohms_over.result c.bound_to_name.ensures c.ohms_of-ohms.ensures (sym c.is_some.ensures ∙ c.if-is_some.false) told)
+    rw (← c.self.view_is) (above_second g.E.Enclosure.SCALE (asked_of t.spec) t.assembly (ratio_of t.extra) c.args.lo c.args.hi (levels_in c.levels-levels.result) c.levels-levels.ensures.value (option_map g.E.Enclosure.ends t.susceptance) c.self.invariant.1.is (option_map (rectangle_of g.E.Enclosure.ends) c.admittance-y.result) c.admittance-y.ensures.value c.bound_to_name.result c.ohms_of-ohms.result _ c.bound_to_name.ensures c.ohms_of-ohms.ensures (sym c.is_some.ensures ∙ c.if-is_some.false)
+    (nothing_above g.E.Enclosure.SCALE (asked_of t.spec) t.assembly (ratio_of t.extra) c.args.lo c.args.hi (levels_in c.levels-levels.result) c.levels-levels.ensures.value g.row.E.Denot (sym c.in-Nothing.is ∙ c.self.invariant.2)))
+
+pub returns-then-hi-lo-clause-value : goal.returns-then-hi-lo-clause-value
+returns-then-hi-lo-clause-value g c =
+    let t = c.self.inside in
+    let stated = rw c.admittance-y.ensures.assembly at c.impedance-z.ensures.value in
+    let told = rw c.SCALE.ensures at c.ohms_over.ensures in
+    rw (← c.self.view_is) (above_second g.E.Enclosure.SCALE (asked_of t.spec) t.assembly (ratio_of t.extra) c.args.lo c.args.hi (levels_in c.levels-levels.result) c.levels-levels.ensures.value (option_map g.E.Enclosure.ends t.susceptance) c.self.invariant.1.is (option_map (rectangle_of g.E.Enclosure.ends) c.admittance-y.result) c.admittance-y.ensures.value c.bound_to_name.result c.ohms_of-ohms.result _ c.bound_to_name.ensures c.ohms_of-ohms.ensures (sym c.is_some.ensures ∙ c.if-is_some.false)
+    (inverse_above g.E.Enclosure.SCALE (asked_of t.spec) t.assembly (ratio_of t.extra) c.args.lo c.args.hi (levels_in c.levels-levels.result) c.levels-levels.ensures.value (option_map g.E.Enclosure.ends t.susceptance) c.self.invariant.1.is g.row.E.Denot c.in-OfInverse.bench (sym c.in-OfInverse.is ∙ c.self.invariant.2) c.if-hi-lo.true c.impedance-z.result stated _ told))
+
+pub returns-else-hi-lo-clause-value : goal.returns-else-hi-lo-clause-value
+returns-else-hi-lo-clause-value g c =
+    let t = c.self.inside in
+    rw (← c.self.view_is) (above_second g.E.Enclosure.SCALE (asked_of t.spec) t.assembly (ratio_of t.extra) c.args.lo c.args.hi (levels_in c.levels-levels.result) c.levels-levels.ensures.value (option_map g.E.Enclosure.ends t.susceptance) c.self.invariant.1.is (option_map (rectangle_of g.E.Enclosure.ends) c.admittance-y.result) c.admittance-y.ensures.value c.bound_to_name.result c.ohms_of-ohms.result _ c.bound_to_name.ensures c.ohms_of-ohms.ensures (sym c.is_some.ensures ∙ c.if-is_some.false)
+    (far_above g.E.Enclosure.SCALE (asked_of t.spec) t.assembly (ratio_of t.extra) c.args.lo c.args.hi (levels_in c.levels-levels.result) c.levels-levels.ensures.value (option_map g.E.Enclosure.ends t.susceptance) c.self.invariant.1.is g.row.E.Denot c.in-OfInverse.bench (sym c.in-OfInverse.is ∙ c.self.invariant.2) c.if-hi-lo.false))
+
+pub returns-in-OfDrops-clause-value : goal.returns-in-OfDrops-clause-value
+returns-in-OfDrops-clause-value g c =
+    let t = c.self.inside in
+    rw (← c.self.view_is) (above_second g.E.Enclosure.SCALE (asked_of t.spec) t.assembly (ratio_of t.extra) c.args.lo c.args.hi (levels_in c.levels-levels.result) c.levels-levels.ensures.value (option_map g.E.Enclosure.ends t.susceptance) c.self.invariant.1.is (option_map (rectangle_of g.E.Enclosure.ends) c.admittance-y.result) c.admittance-y.ensures.value c.bound_to_name.result c.ohms_of-ohms.result _ c.bound_to_name.ensures c.ohms_of-ohms.ensures (sym c.is_some.ensures ∙ c.if-is_some.false)
+    (drops_above g.E.Enclosure.SCALE (asked_of t.spec) t.assembly (ratio_of t.extra) c.args.lo c.args.hi (levels_in c.levels-levels.result) c.levels-levels.ensures.value g.row.E.Denot c.in-OfDrops.bench (sym c.in-OfDrops.is ∙ c.self.invariant.2) (result_of (near_of g.E.Enclosure.ends) c.estimate-found.result) c.estimate-found.ensures.value _ c.ohms_over_near.ensures))

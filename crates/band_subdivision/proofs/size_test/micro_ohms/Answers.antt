@@ -1,7 +1,7 @@
 use Rattle.std.proofs.Common.{◌∙◌, ap, pos}
 use Rattle.band_subdivision.specs.Levels.{levels_in}
 use Rattle.band_subdivision.proofs.TestSteps.{below_some, from_size, micro_ohms_from_is, passed}
-use Rattle.band_subdivision.proofs.inverse_test.micro_ohms.Goals as goal
+use Rattle.band_subdivision.proofs.size_test.micro_ohms.Goals as goal
 
 pub nonzero_div-size : goal.nonzero_div-size
 nonzero_div-size c = rw (c.unit_of.ensures.value, c.size_of.ensures.size) (below_some c.args.scale (levels_in c.args.levels.now) c.requires.in_range.levels)
