@@ -38,7 +38,7 @@ const TOO_LARGE: Answer<'static> = Answer {
 // Words that have no reading ask for no file. Of the two files that are asked for, the first is missing, and the second can't be read.
 #[test]
 fn words_without_a_reading_and_files_that_are_not_read(rt: HostRuntime) -> Result<(), Fail> {
-    let cases: [(&[&str], Answer<'_>); 12] = [
+    let cases: [(&[&str], Answer<'_>); 20] = [
         (&[], WORDS_REFUSED),
         (&["help"], WORDS_REFUSED),
         (&["--help"], WORDS_REFUSED),
@@ -47,8 +47,16 @@ fn words_without_a_reading_and_files_that_are_not_read(rt: HostRuntime) -> Resul
         (&["scan", "-a"], WORDS_REFUSED),
         (&["Scan", "study.toml"], WORDS_REFUSED),
         (&["scan", "study.toml", "study.toml"], WORDS_REFUSED),
+        (&["drill"], WORDS_REFUSED),
+        (&["drill", ""], WORDS_REFUSED),
+        (&["drill", "00"], WORDS_REFUSED),
         (&["drill", "07"], WORDS_REFUSED),
         (&["drill", "-1"], WORDS_REFUSED),
+        (&["drill", "+7"], WORDS_REFUSED),
+        (&["drill", "7a"], WORDS_REFUSED),
+        (&["drill", "1000000"], WORDS_REFUSED),
+        (&["drill", "7", "7"], WORDS_REFUSED),
+        (&["Drill", "7"], WORDS_REFUSED),
         (&["scan", "absent.toml"], CANNOT_READ),
         (&["scan", "study.toml"], CANNOT_READ),
     ];
