@@ -29,3 +29,13 @@ pub scans-preserved-in-Ok : goal.scans-preserved-in-Ok
 scans-preserved-in-Ok g c =
     putting_next c.args.study.now c.scans.plan.items c.in-Some.planned c.pop_front.new.self.items c.scans.found c.and-found.result c.in-Ok.counts _ _ _
     c.in-Some.ensures.items c.scans.invariant c.in-Ok.ensures.wrote c.in-Ok.ensures.counts c.and-found.ensures
+
+pub scans-preserved-in-Ok-2 : goal.scans-preserved-in-Ok-2
+scans-preserved-in-Ok-2 g c =
+    putting_next c.args.study.now c.scans.plan.items c.in-Some.planned c.pop_front.new.self.items c.scans.found c.and-found.result c.in-Ok.counts _ _ _
+    c.in-Some.ensures.items c.scans.invariant c.in-Ok.ensures.wrote c.in-Ok.ensures.counts c.and-found.ensures
+
+pub scans-preserved-in-Ok-3 : goal.scans-preserved-in-Ok-3
+scans-preserved-in-Ok-3 g c =
+    putting_next c.args.study.now c.scans.plan.items c.in-Some.planned c.pop_front.new.self.items c.scans.found c.and-found.result c.in-Ok.counts _ _ _
+    c.in-Some.ensures.items c.scans.invariant c.in-Ok.ensures.wrote c.in-Ok.ensures.counts c.and-found.ensures
