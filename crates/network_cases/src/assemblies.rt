@@ -29,8 +29,8 @@ const QUARTER: i64 = UNIT / 4;
 // Three times 2^20, less 8.
 const THREE_BANKS: i64 = 3_145_720 * UNIT;
 
-// The assembly of a network that is driven at a node, which must be live.
-fn driven_at(alloc: Global, network: &Network, number: u32) -> Result<Assembly<Span<40>>, Fail>
+/// The assembly of a network that is driven at a node, which must be live.
+pub fn driven_at(alloc: Global, network: &Network, number: u32) -> Result<Assembly<Span<40>>, Fail>
     requires whole { IsWholeNetwork network.now }
     requires no_group { HasNoGroup (exact_network network.now) }
 {

@@ -1,4 +1,4 @@
-// Networks that were worked by hand: systems, branches, live nodes, admittances, matrices and scans, by the public calls.
+// Networks that were worked by hand, and one of a drill: systems, branches, live nodes, admittances, matrices and scans, by the public calls.
 #![tactic(auto)]
 
 #[cfg(test)]
@@ -7,6 +7,8 @@ mod assemblies;
 mod branches;
 #[cfg(test)]
 mod building;
+#[cfg(test)]
+mod drills;
 #[cfg(test)]
 mod fixtures;
 #[cfg(test)]

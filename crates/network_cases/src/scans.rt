@@ -1,4 +1,4 @@
-// Scans of small networks at 10 kV and 100 MVA, where 1 per unit is 1 ohm.
+// Scans of small networks at 100 MVA, most of them at 10 kV, where 1 per unit is 1 ohm.
 ghost use Rattle.std.specs.Prelude.{◌≡◌, pos, IfOk};
 ghost use Rattle.net_branch.specs.Exact.{exact_network};
 ghost use Rattle.net_branch.specs.Whole.{IsWholeNetwork};
@@ -28,15 +28,16 @@ fn one_bus(alloc: Global, r: Fraction) -> Result<Network, Fail>
     network_of(alloc, 1, &[coil(0, r)])
 }
 
-// A band in micro-orders, its finest and its locating width, the threshold in micro-ohms at each end of the band, and whether the
-// inverse is asked too.
+/// A band in micro-orders, its finest and its locating width, the nominal voltage in kV, the threshold in micro-ohms at each end of the
+/// band, and whether the inverse is asked too.
 #[derive(Clone, Copy)]
-struct Asked {
-    band: [u32; 2],
-    finest: u32,
-    locate: u32,
-    ohms: [u64; 2],
-    both: bool,
+pub struct Asked {
+    pub band: [u32; 2],
+    pub finest: u32,
+    pub locate: u32,
+    pub kv: u32,
+    pub ohms: [u64; 2],
+    pub both: bool,
 }
 
 // A lawful curve of two points.
@@ -67,7 +68,8 @@ fn spec_of(asked: Asked) -> Result<ScanSpec, Fail>
     let curve = curve_of(from, to, asked.ohms)?;
     let band = 100_000 <= from && from < to && to <= 100_000_000;
     let widths = 1 <= asked.finest && asked.finest <= asked.locate && asked.locate <= 100_000_000;
-    if !band || !widths {
+    let voltage = 1 <= asked.kv && asked.kv <= 1_000;
+    if !band || !widths || !voltage {
         return Err("out of range".into());
     }
     if u64::from(to - from) > 65536 * u64::from(asked.finest) {
@@ -80,7 +82,7 @@ fn spec_of(asked: Asked) -> Result<ScanSpec, Fail>
         locate: asked.locate,
         curve,
         kv: Decimal {
-            millionths: 10_000_000,
+            millionths: i64::from(asked.kv) * 1_000_000,
         },
         mva: Decimal {
             millionths: 100_000_000,
@@ -89,8 +91,8 @@ fn spec_of(asked: Asked) -> Result<ScanSpec, Fail>
     })
 }
 
-// The scan of a network at a live node.
-fn scan_of<E: Enclosure>(
+/// The scan of a network at a live node.
+pub fn scan_of<E: Enclosure>(
     alloc: Global,
     network: &Network,
     number: u32,
@@ -120,8 +122,8 @@ fn scan_between<E: Enclosure>(
     Ok(Scan::between(alloc, network, network, node, *spec)?)
 }
 
-// A box from one order to another, and what is said of it.
-type Row = (u32, u32, Kind);
+/// A box from one order to another, and what is said of it.
+pub type Row = (u32, u32, Kind);
 
 fn next<E: Enclosure>(scan: &mut Scan<E>) -> Option<Row> {
     match scan.next_box() {
@@ -137,8 +139,8 @@ fn expect_next<E: Enclosure>(rt: &impl Abort, scan: &mut Scan<E>, rows: &[Row]) 
     }
 }
 
-// The boxes that a scan has still to give are these.
-fn expect_boxes<E: Enclosure>(rt: &impl Abort, scan: &mut Scan<E>, rows: &[Row]) {
+/// The boxes that a scan has still to give are these.
+pub fn expect_boxes<E: Enclosure>(rt: &impl Abort, scan: &mut Scan<E>, rows: &[Row]) {
     expect_next(rt, scan, rows);
     expect(rt, next(scan), None, "the end");
 }
@@ -165,6 +167,7 @@ const COIL: Asked = Asked {
     band: [1_000_000, 10_000_000],
     finest: 1_000,
     locate: 5_000_000,
+    kv: 10,
     ohms: [500_000, 500_000],
     both: false,
 };
@@ -208,6 +211,7 @@ const fn about_five(both: bool) -> Asked {
         band: [4_990_000, 5_010_000],
         finest: 20_000,
         locate: 20_000,
+        kv: 10,
         ohms: [20_000_000, 20_000_000],
         both,
     }
@@ -323,6 +327,7 @@ fn a_resonance_with_an_extra_bank(rt: HostRuntime) -> Result<(), Fail> {
         band: [3_000_000, 7_000_000],
         finest: 125_000,
         locate: 500_000,
+        kv: 10,
         ohms: [20_000_000, 20_000_000],
         both: false,
     };
@@ -383,6 +388,7 @@ const fn near(threshold: u64) -> Asked {
         band: [3_000_000, 5_000_000],
         finest: 1_000,
         locate: 1_000,
+        kv: 10,
         ohms: [threshold, threshold],
         both: false,
     }

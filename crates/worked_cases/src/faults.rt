@@ -37,7 +37,7 @@ const TOO_LARGE: Answer<'static> = Answer {
 
 #[test]
 fn words_without_a_reading(rt: HostRuntime) -> Result<(), Fail> {
-    let cases: [&[&str]; 10] = [
+    let cases: [&[&str]; 18] = [
         &[],
         &["help"],
         &["--help"],
@@ -46,8 +46,16 @@ fn words_without_a_reading(rt: HostRuntime) -> Result<(), Fail> {
         &["scan", "-a"],
         &["Scan", "study.toml"],
         &["scan", "study.toml", "study.toml"],
+        &["drill"],
+        &["drill", ""],
+        &["drill", "00"],
         &["drill", "07"],
         &["drill", "-1"],
+        &["drill", "+7"],
+        &["drill", "7a"],
+        &["drill", "1000000"],
+        &["drill", "7", "7"],
+        &["Drill", "7"],
     ];
     let mut shelf = shelf_with(rt.alloc(), studies::BELOW_ITS_THRESHOLD.as_bytes())?;
     for words in cases {

@@ -8,6 +8,8 @@ mod curve_refusals;
 #[cfg(test)]
 mod curves;
 #[cfg(test)]
+mod drills;
+#[cfg(test)]
 mod examples;
 #[cfg(test)]
 mod faults;

@@ -1,7 +1,7 @@
 // Reports of which a line is not taken, through the program.
 use crate::answers::{SCAN, assert_status, assert_text, shelf_with, status_of};
 use crate::refusing::RefusingSink;
-use crate::studies;
+use crate::{drills, studies};
 use harm_io::{MemoryShelf, MemorySink, SteadySink};
 use std::alloc::Global;
 use std::process::Abort;
@@ -11,6 +11,7 @@ use std::test::Fail;
 fn assert_taken(
     rt: &impl Abort,
     alloc: Global,
+    words: &[&str],
     shelf: &mut MemoryShelf,
     failing: (u32, u32),
     expected: &[u8],
@@ -18,7 +19,7 @@ fn assert_taken(
     let mut out = MemorySink::new(alloc);
     out.fail_call(failing.0, failing.1)?;
     let mut err = SteadySink::new(alloc);
-    let status = status_of(alloc, &SCAN, shelf, &mut out, &mut err)?;
+    let status = status_of(alloc, words, shelf, &mut out, &mut err)?;
     assert_text(rt, "standard output", out.taken(), expected);
     assert_text(
         rt,
@@ -34,6 +35,7 @@ fn assert_taken(
 fn assert_line(
     rt: &impl Abort,
     alloc: Global,
+    words: &[&str],
     shelf: &mut MemoryShelf,
     before: &[u8],
     (call, line): (u32, &str),
@@ -42,7 +44,7 @@ fn assert_line(
         let mut expected = Vec::from_slice(alloc, before)?;
         let front = line.as_bytes().len().min(kept as usize);
         expected.extend_from_slice(&line.as_bytes()[..front])?;
-        assert_taken(rt, alloc, shelf, (call, kept), &expected)?;
+        assert_taken(rt, alloc, words, shelf, (call, kept), &expected)?;
     }
     Ok(())
 }
@@ -53,7 +55,7 @@ fn each_put_that_fails(rt: HostRuntime) -> Result<(), Fail> {
     let mut shelf = shelf_with(rt.alloc(), studies::TWO_RESONANCES.as_bytes())?;
     let mut lines = Vec::new(rt.alloc());
     for (call, line) in studies::TWO_RESONANCES_LINES {
-        assert_line(&rt, rt.alloc(), &mut shelf, &lines, (call, line))?;
+        assert_line(&rt, rt.alloc(), &SCAN, &mut shelf, &lines, (call, line))?;
         lines.extend_from_slice(line.as_bytes())?;
     }
     assert_text(
@@ -62,6 +64,25 @@ fn each_put_that_fails(rt: HostRuntime) -> Result<(), Fail> {
         &lines,
         studies::TWO_RESONANCES_REPORT.as_bytes(),
     );
+    Ok(())
+}
+
+#[test]
+fn each_put_of_a_drill_that_fails(rt: HostRuntime) -> Result<(), Fail> {
+    let mut shelf = MemoryShelf::new(rt.alloc());
+    let mut lines = Vec::new(rt.alloc());
+    for (call, line) in drills::OF_7 {
+        // the put keeps nothing of its line
+        assert_taken(
+            &rt,
+            rt.alloc(),
+            &["drill", "7"],
+            &mut shelf,
+            (call, 0),
+            &lines,
+        )?;
+        lines.extend_from_slice(line.as_bytes())?;
+    }
     Ok(())
 }
 
