@@ -17,10 +17,7 @@ use scan_report::Kind;
 use sequence_network::networks_of;
 use std::alloc::Global;
 use std::test::Fail;
-<<<<<<< HEAD
 use study_model::Method;
-=======
->>>>>>> b9e0083fb38dc866cadc7b3dae0504f3f17b45e4
 
 // 1/T for 20 ohms at 33 kV and 100 MVA, which is 1089/2000, in units of 1 / 2^40, rounded up.
 const BOUND: u128 = 598_684_081_325;
@@ -31,11 +28,7 @@ const ASKED: Asked = Asked {
     locate: 1_000,
     kv: 33,
     ohms: [20_000_000, 20_000_000],
-<<<<<<< HEAD
     method: Method::Elimination,
-=======
-    both: false,
->>>>>>> b9e0083fb38dc866cadc7b3dae0504f3f17b45e4
 };
 
 // The network of the drill of number 7.

@@ -29,11 +29,7 @@ fn one_bus(alloc: Global, r: Fraction) -> Result<Network, Fail>
 }
 
 /// A band in micro-orders, its finest and its locating width, the nominal voltage in kV, the threshold in micro-ohms at each end of the
-<<<<<<< HEAD
 /// band, and the method.
-=======
-/// band, and whether the inverse is asked too.
->>>>>>> b9e0083fb38dc866cadc7b3dae0504f3f17b45e4
 #[derive(Clone, Copy)]
 pub struct Asked {
     pub band: [u32; 2],
@@ -41,11 +37,7 @@ pub struct Asked {
     pub locate: u32,
     pub kv: u32,
     pub ohms: [u64; 2],
-<<<<<<< HEAD
     pub method: Method,
-=======
-    pub both: bool,
->>>>>>> b9e0083fb38dc866cadc7b3dae0504f3f17b45e4
 }
 
 // A lawful curve of two points.

@@ -37,7 +37,6 @@ const TOO_LARGE: Answer<'static> = Answer {
 
 // Words that have no reading ask for no file. Of the two files that are asked for, the first is missing, and the second can't be read.
 #[test]
-<<<<<<< HEAD
 fn words_without_a_reading_and_files_that_are_not_read(rt: HostRuntime) -> Result<(), Fail> {
     let cases: [(&[&str], Answer<'_>); 20] = [
         (&[], WORDS_REFUSED),
@@ -60,28 +59,6 @@ fn words_without_a_reading_and_files_that_are_not_read(rt: HostRuntime) -> Resul
         (&["Drill", "7"], WORDS_REFUSED),
         (&["scan", "absent.toml"], CANNOT_READ),
         (&["scan", "study.toml"], CANNOT_READ),
-=======
-fn words_without_a_reading(rt: HostRuntime) -> Result<(), Fail> {
-    let cases: [&[&str]; 18] = [
-        &[],
-        &["help"],
-        &["--help"],
-        &["scan"],
-        &["scan", ""],
-        &["scan", "-a"],
-        &["Scan", "study.toml"],
-        &["scan", "study.toml", "study.toml"],
-        &["drill"],
-        &["drill", ""],
-        &["drill", "00"],
-        &["drill", "07"],
-        &["drill", "-1"],
-        &["drill", "+7"],
-        &["drill", "7a"],
-        &["drill", "1000000"],
-        &["drill", "7", "7"],
-        &["Drill", "7"],
->>>>>>> b9e0083fb38dc866cadc7b3dae0504f3f17b45e4
     ];
     let mut shelf = shelf_with(rt.alloc(), studies::BELOW_ITS_THRESHOLD.as_bytes())?;
     shelf.fail_call(2)?;
