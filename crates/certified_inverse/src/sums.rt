@@ -17,6 +17,9 @@ fn add_times<E: Enclosure>(f: Rect<E>, sum: Rect<E>, a: Rect<E>) -> Option<Rect<
     if is_zero(f) {
         return Some(sum);
     }
+    if is_zero(a) {
+        return Some(sum);
+    }
     let part = f.mul(a)?;
     sum.add(part)
 }
