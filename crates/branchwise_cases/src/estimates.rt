@@ -2,39 +2,12 @@
 ghost use Rattle.std.specs.Prelude.{IfOk};
 ghost use Rattle.branchwise_bench.specs.Drops.{IsInside};
 
+use crate::outcomes::{Cell, Expected, UNIT, expect, found};
 use admittance_box::{PlacedTap, TapProduct};
-use branchwise_bench::{DropBench, DropIntervals, Near};
-use branchwise_test::BranchwiseFault;
+use branchwise_bench::{DropBench, DropIntervals};
 use complex_interval::{Enclosure, Rect, Span};
 use std::alloc::Global;
-use std::process::Abort;
 use std::test::Fail;
-
-const UNIT: i64 = 1_099_511_627_776;
-
-/// The raw ends of a real part, and those of an imaginary one.
-type Cell = [i64; 4];
-
-/// The raw ends of the estimate with the error; a step; a contraction; or nothing.
-#[derive(Clone, Copy, PartialEq, Debug)]
-enum Expected {
-    Near(Cell, u64),
-    NoInverse(u32),
-    NotContracting(u64),
-    OutOfRange,
-}
-
-fn found(outcome: Result<Near<Span<40>>, BranchwiseFault>) -> Expected {
-    match outcome {
-        Ok(near) => {
-            let Rect { re, im } = near.estimate;
-            Expected::Near([re.low(), re.high(), im.low(), im.high()], near.error)
-        }
-        Err(BranchwiseFault::NoInverse(column)) => Expected::NoInverse(column),
-        Err(BranchwiseFault::NotContracting(theta)) => Expected::NotContracting(theta),
-        Err(BranchwiseFault::OutOfRange) => Expected::OutOfRange,
-    }
-}
 
 fn span(low: i64, high: i64) -> Result<Span<40>, Fail> {
     let span = Span::from_ends(low, high).ok_or("out of range")?;
@@ -78,11 +51,6 @@ fn outcome(alloc: Global, middle: Cell, rest: Cell) -> Result<Expected, Fail> {
     drops.push(node_drop(alloc, middle, rest)?)?;
     let mut bench = DropBench::new(alloc, 1, 1)?;
     Ok(found(bench.estimate(drops.as_slice())))
-}
-
-/// Compares an outcome. An assertion that stands in a test costs its proof more than this call does.
-fn expect(rt: &impl Abort, outcome: Expected, wanted: Expected, label: &str) {
-    assert_eq!(rt; outcome, wanted, "{label}");
 }
 
 #[test]

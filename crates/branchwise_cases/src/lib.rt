@@ -3,3 +3,9 @@
 
 #[cfg(test)]
 mod estimates;
+#[cfg(test)]
+mod networks;
+#[cfg(test)]
+mod outcomes;
+#[cfg(test)]
+mod pairs;
