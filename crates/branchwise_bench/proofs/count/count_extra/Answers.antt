@@ -30,7 +30,7 @@ returns-in_err-rest-clause-value g c =
     let s = g.E.Enclosure.SCALE in
     ap (option_map (λ _. map (drop_ends g.E.Enclosure.ends) c.args.drops.now)) c.from_residual-in_err-rest.ensures
     ∙ no_rest s (g.E.Enclosure.ends c.args.order) (one_range s small) (one_times_one s small) c.args.place (ratio_of c.args.extra) (g.E.Enclosure.ends c.in_ok-susceptance.susceptance) (rectangle_of g.E.Enclosure.ends c.in_ok-y.y) (map (drop_ends g.E.Enclosure.ends) c.args.drops.now)
-    above c.in_ok-susceptance.ensures.value c.in_ok-y.ensures.value (c.in_err-rest.ensures.value ∙ ap (sub_rectangles (rectangle_of g.E.Enclosure.ends c.in_ok-y.y)) c.middle_point-middle.ensures)
+    above c.in_ok-susceptance.ensures.value c.in_ok-y.ensures.value (c.in_err-rest.ensures.value ∙ ap (sub_rectangles (rectangle_of g.E.Enclosure.ends c.in_ok-y.y)) c.middle_rectangle-middle.ensures)
 
 pub returns-clause-value : goal.returns-clause-value
 returns-clause-value g c =
@@ -40,7 +40,7 @@ returns-clause-value g c =
     let h = drop_ends g.E.Enclosure.ends in
     let y = rectangle_of g.E.Enclosure.ends c.in_ok-y.y in
     let rest = rectangle_of g.E.Enclosure.ends c.in_ok-rest.rest in
-    let middle = c.middle_point-middle.ensures in
+    let middle = c.middle_rectangle-middle.ensures in
     let one = g.E.Enclosure.ends c.exact_one.result in
     let old = c.args.drops.now in
     let new = c.raise_at.new.drops in
