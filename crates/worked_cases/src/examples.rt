@@ -1,6 +1,9 @@
-// The studies of examples/, which a check after the gate compares with those files, and their reports, which another program
-// computed (tools/oracle).
-pub const SAFE: &str =
+// The studies of examples/, which a check after the gate compares with those files, and their reports. Those by elimination with one
+// threshold were computed by another program too (tools/oracle).
+use crate::answers::{assert_long_report, assert_reports};
+use std::test::Fail;
+
+const SAFE: &str =
     r#"# The same works bus with a bank of 0.6 MVAr, whose resonance stands far above order 13: nothing between the orders 2 and 13 is above 40 ohms.
 [study]
 version = 1
@@ -30,14 +33,14 @@ threshold = "40"
 finest = "0.01"
 "#;
 
-pub const SAFE_REPORT: &str = "\
+const SAFE_REPORT: &str = "\
 scan,s1,WORKS,positive,2.000000,13.000000,40.000000,elimination
 box,1,2.000000,13.000000,cleared,-,-
 summary,s1,1,1,0,0,0
 end,0
 ";
 
-pub const WORKS: &str =
+const WORKS: &str =
     r#"# The 11 kV works bus of industrial.toml with the loads of the works, in both sequence networks. The motors and heaters
 # damp the resonance: is the impedance still anywhere above 40 ohms? And does the grounded bank resonate in the zero sequence?
 study = { version = 1, mva = 100 }
@@ -70,7 +73,7 @@ finest = "0.01"
 locate = "0.4"
 "#;
 
-pub const WORKS_REPORT: &str = "\
+const WORKS_REPORT: &str = "\
 scan,positive,WORKS,positive,2.000000,13.000000,40.000000,elimination
 box,1,2.000000,13.000000,cleared,-,-
 summary,positive,1,1,0,0,0
@@ -89,7 +92,7 @@ summary,zero,9,7,2,0,1
 end,3
 ";
 
-pub const LOCATE: &str =
+const LOCATE: &str =
     r#"# A 33 kV bus that resonates with a bank of 6 MVAr near order 5.5. `locate` asks for the place: bands above 1500 ohms are split until they are at most 0.02 orders wide.
 [study]
 version = 1
@@ -120,7 +123,7 @@ finest = "0.001"
 locate = "0.02"
 "#;
 
-pub const LOCATE_REPORT: &str = "\
+const LOCATE_REPORT: &str = "\
 scan,s1,MAIN,positive,5.000000,6.000000,1500.000000,elimination
 box,1,5.000000,5.250000,cleared,-,-
 box,2,5.250000,5.375000,cleared,-,-
@@ -141,7 +144,7 @@ summary,s1,14,8,6,0,1
 end,3
 ";
 
-pub const PLANT: &str =
+const PLANT: &str =
     r#"# A works that is fed at 33 kV: a transformer of 10 MVA, an 11 kV busbar with motors and a capacitor bank, and a cable
 # to a workshop with heaters, drives and a filter for their 5th harmonic. Is the impedance of either 11 kV bus above
 # 30 ohms at some order up to 25, and does the zero sequence resonate at the busbar?
@@ -275,22 +278,21 @@ isc = 8750
 il = 90
 "#;
 
-/// The report has 120 lines, of which these are the first and the last ones.
-pub const PLANT_FRONT: &str = "\
+const PLANT_FRONT: &str = "\
 scan,busbar,MAIN,positive,1.000000,25.000000,30.000000,branchwise
 box,1,1.000000,1.375000,cleared,-,-
 box,2,1.375000,1.750000,cleared,-,-
 box,3,1.750000,2.500000,cleared,-,-
 ";
 
-pub const PLANT_END: &str = "\
+const PLANT_END: &str = "\
 box,6,13.000000,25.000000,cleared,-,-
 summary,zero-sequence,6,6,0,0,0
 end,3
 ";
 
 /// examples/both.toml.
-pub const BOTH: &str =
+const BOTH: &str =
     r#"# A bank at the end of a cable, seen from the intake. Near order 16 the bank and the cable are in resonance behind the
 # intake, and elimination divides by an interval that holds zero. Both methods are asked: the certified inverse clears what
 # elimination leaves undecided, and in fewer boxes.
@@ -310,7 +312,7 @@ finest = "1"
 locate = "4"
 "#;
 
-pub const BOTH_REPORT: &str = "\
+const BOTH_REPORT: &str = "\
 scan,s1,INTAKE,positive,10.000000,25.000000,50.000000,both
 box,1,10.000000,10.937500,cleared,-,-
 box,2,10.937500,11.875000,cleared,-,-
@@ -322,7 +324,7 @@ end,0
 ";
 
 /// examples/curve.toml.
-pub const CURVE: &str =
+const CURVE: &str =
     r#"# The 11 kV works bus of industrial.toml. The planner allows 40 ohms up to order 5 and 160 ohms from order 7 on, with a
 # straight line between. Where is the impedance above that?
 study = { version = 2, mva = "100" }
@@ -341,7 +343,7 @@ finest = "0.01"
 locate = "0.1"
 "#;
 
-pub const CURVE_REPORT: &str = "\
+const CURVE_REPORT: &str = "\
 scan,s1,WORKS,positive,2.000000,13.000000,curve,elimination
 box,1,2.000000,4.750000,cleared,-,-
 box,2,4.750000,6.125000,cleared,-,-
@@ -358,3 +360,23 @@ box,11,7.500000,13.000000,cleared,-,-
 summary,s1,11,8,3,0,1
 end,3
 ";
+
+#[test]
+fn examples(rt: HostRuntime) -> Result<(), Fail> {
+    let cases = [
+        (SAFE, SAFE_REPORT, 0),
+        (WORKS, WORKS_REPORT, 3),
+        (LOCATE, LOCATE_REPORT, 3),
+        (BOTH, BOTH_REPORT, 0),
+        (CURVE, CURVE_REPORT, 3),
+    ];
+    assert_reports(&rt, rt.alloc(), &cases)
+}
+
+/// The report has 120 lines, of which the first and the last ones are compared, and its length.
+#[test]
+fn the_plant(rt: HostRuntime) -> Result<(), Fail> {
+    let length = assert_long_report(&rt, rt.alloc(), PLANT, (PLANT_FRONT, PLANT_END), 3)?;
+    assert_eq!(rt; length, 5_026);
+    Ok(())
+}

@@ -1,6 +1,7 @@
 // Studies as the call of the reader gives them.
 use crate::answers::joined;
 use std::alloc::Global;
+use std::process::Abort;
 use std::test::Fail;
 use study_model::{Bank, Bus, Curve, CurvePoint, Method, Pcc, ScanItem, Source, Study, StudyModel};
 use study_reader::read_study;
@@ -87,22 +88,57 @@ fn read(alloc: Global, pieces: &[&str]) -> Result<Study, Fail> {
     Ok(read_study(alloc, text.as_bytes())?)
 }
 
+fn assert_all(rt: &impl Abort, parts: &[(&str, bool)]) {
+    for (label, holds) in parts {
+        assert!(rt; *holds, "{label}");
+    }
+}
+
+#[test]
+fn one_source(rt: HostRuntime) -> Result<(), Fail> {
+    let study = read(rt.alloc(), &[STUDY, BUS, SOURCE, SCAN])?;
+    let numbers = [1_000_000, 10_000_000, 1_000, 1_000];
+    let scans = study.scans.as_slice();
+    let flat = Curve::flat(20_000_000);
+    let parts = [
+        ("version", study.version == 1),
+        ("usual", is_usual(&study)),
+        ("mva", study.mva.millionths == 100_000_000),
+        ("bus", is_bus(study.buses.as_slice(), b"B1", 10_000_000)),
+        (
+            "source",
+            is_source(study.sources.as_slice(), b"S1", 0, 1_500_000),
+        ),
+        ("scan", is_scan(scans, b"s1", numbers)),
+        ("threshold", has_threshold(scans, Some(20_000_000), flat)),
+    ];
+    assert_all(&rt, &parts);
+    Ok(())
+}
+
+#[test]
+fn a_bank_and_a_coarser_search(rt: HostRuntime) -> Result<(), Fail> {
+    let pieces = [STUDY, BUS, SOURCE, BANK, SCAN, "locate = \"0.25\"\n"];
+    let study = read(rt.alloc(), &pieces)?;
+    let numbers = [1_000_000, 10_000_000, 1_000, 250_000];
+    let parts = [
+        ("bank", is_bank(study.banks.as_slice(), b"K1", 4_250_000)),
+        ("scan", is_scan(study.scans.as_slice(), b"s1", numbers)),
+    ];
+    assert_all(&rt, &parts);
+    Ok(())
+}
+
 const NEWER_STUDY: &str = "[study]\nversion = 2\nmva = \"100\"\nmethod = \"both\"\n";
 
 const CURVE: &str =
     "[[scan]]\nname = \"s1\"\nbus = \"B1\"\nfrom = 1\nto = 10\ncurve_at = [\"0.5\", 2, 10]\ncurve_ohms = [\"0.000001\", \"20\", \"999999.999999\"]\nfinest = \"0.001\"\n";
 
-const LONG_CURVE: &str =
-    "[[scan]]\nname = \"s1\"\nbus = \"B1\"\nfrom = \"0.1\"\nto = 100\ncurve_at = [\"0.1\", 1, 2, 3, 4, 5, 6, 7, 8, 9, 10, 11, 12, 13, 14, 100]\ncurve_ohms = [1, 2, 3, 4, 5, 6, 7, 8, 9, 10, 11, 12, 13, 14, 15, 16]\nfinest = 1\n";
-
-const POINT: &str =
-    "[[pcc]]\nname = \"P1\"\nbus = \"B1\"\nelement = \"S1\"\nisc = 6000\nil = 200\n";
-
-const LOAD: &str = "[[load]]\nname = \"D1\"\nbus = \"B1\"\nmodel = \"cigre\"\np = 1\nq = 1\n";
-
-/// The curve of `CURVE`.
-fn three_points() -> Curve {
-    Curve::of_points(&[
+#[test]
+fn a_curve(rt: HostRuntime) -> Result<(), Fail> {
+    let study = read(rt.alloc(), &[NEWER_STUDY, BUS, SOURCE, CURVE])?;
+    let scans = study.scans.as_slice();
+    let curve = Curve::of_points(&[
         CurvePoint {
             at: 500_000,
             ohms: 1,
@@ -115,11 +151,24 @@ fn three_points() -> Curve {
             at: 10_000_000,
             ohms: 999_999_999_999,
         },
-    ])
+    ]);
+    let numbers = [1_000_000, 10_000_000, 1_000, 1_000];
+    let parts = [
+        ("version", study.version == 2),
+        ("method", study.method == Method::Both),
+        ("scan", is_scan(scans, b"s1", numbers)),
+        ("threshold", has_threshold(scans, None, curve)),
+    ];
+    assert_all(&rt, &parts);
+    Ok(())
 }
 
-/// The curve of `LONG_CURVE`.
-fn sixteen_points() -> Curve {
+const LONG_CURVE: &str =
+    "[[scan]]\nname = \"s1\"\nbus = \"B1\"\nfrom = \"0.1\"\nto = 100\ncurve_at = [\"0.1\", 1, 2, 3, 4, 5, 6, 7, 8, 9, 10, 11, 12, 13, 14, 100]\ncurve_ohms = [1, 2, 3, 4, 5, 6, 7, 8, 9, 10, 11, 12, 13, 14, 15, 16]\nfinest = 1\n";
+
+#[test]
+fn a_curve_of_sixteen_points(rt: HostRuntime) -> Result<(), Fail> {
+    let study = read(rt.alloc(), &[NEWER_STUDY, BUS, SOURCE, LONG_CURVE])?;
     let mut points = [CurvePoint::NONE; 16];
     for i in 0..16 {
         points[i] = CurvePoint {
@@ -129,61 +178,25 @@ fn sixteen_points() -> Curve {
     }
     points[0].at = 100_000;
     points[15].at = 100_000_000;
-    Curve::of_points(&points)
+    let curve = Curve::of_points(&points);
+    let held = has_threshold(study.scans.as_slice(), None, curve);
+    assert_all(&rt, &[("sixteen points", held)]);
+    Ok(())
 }
 
-// One source; a bank and a coarser search; a point and no scan; a curve, and one of sixteen points.
+const POINT: &str =
+    "[[pcc]]\nname = \"P1\"\nbus = \"B1\"\nelement = \"S1\"\nisc = 6000\nil = 200\n";
+
+const LOAD: &str = "[[load]]\nname = \"D1\"\nbus = \"B1\"\nmodel = \"cigre\"\np = 1\nq = 1\n";
+
 #[test]
-fn studies_that_are_read(rt: HostRuntime) -> Result<(), Fail> {
-    let source = read(rt.alloc(), &[STUDY, BUS, SOURCE, SCAN])?;
-    let finest = [1_000_000, 10_000_000, 1_000, 1_000];
-    let flat = Curve::flat(20_000_000);
-    let bank = read(
-        rt.alloc(),
-        &[STUDY, BUS, SOURCE, BANK, SCAN, "locate = \"0.25\"\n"],
-    )?;
-    let coarser = [1_000_000, 10_000_000, 1_000, 250_000];
-    let point = read(rt.alloc(), &[STUDY, BUS, SOURCE, LOAD, POINT])?;
-    let curve = read(rt.alloc(), &[NEWER_STUDY, BUS, SOURCE, CURVE])?;
-    let long = read(rt.alloc(), &[NEWER_STUDY, BUS, SOURCE, LONG_CURVE])?;
-    for (label, holds) in [
-        ("version", source.version == 1),
-        ("usual", is_usual(&source)),
-        ("mva", source.mva.millionths == 100_000_000),
-        ("bus", is_bus(source.buses.as_slice(), b"B1", 10_000_000)),
-        (
-            "source",
-            is_source(source.sources.as_slice(), b"S1", 0, 1_500_000),
-        ),
-        ("scan", is_scan(source.scans.as_slice(), b"s1", finest)),
-        (
-            "threshold",
-            has_threshold(source.scans.as_slice(), Some(20_000_000), flat),
-        ),
-        ("bank", is_bank(bank.banks.as_slice(), b"K1", 4_250_000)),
-        (
-            "coarser scan",
-            is_scan(bank.scans.as_slice(), b"s1", coarser),
-        ),
-        ("loads", point.loads.len() == 1),
-        ("scans", point.scans.len() == 0),
-        ("point", is_point(point.points.as_slice(), 1, 200_000_000)),
-        ("newer version", curve.version == 2),
-        ("method", curve.method == Method::Both),
-        (
-            "scan over a curve",
-            is_scan(curve.scans.as_slice(), b"s1", finest),
-        ),
-        (
-            "curve",
-            has_threshold(curve.scans.as_slice(), None, three_points()),
-        ),
-        (
-            "sixteen points",
-            has_threshold(long.scans.as_slice(), None, sixteen_points()),
-        ),
-    ] {
-        assert!(rt; holds, "{label}");
-    }
+fn points_and_no_scans(rt: HostRuntime) -> Result<(), Fail> {
+    let study = read(rt.alloc(), &[STUDY, BUS, SOURCE, LOAD, POINT])?;
+    let parts = [
+        ("loads", study.loads.len() == 1),
+        ("scans", study.scans.len() == 0),
+        ("point", is_point(study.points.as_slice(), 1, 200_000_000)),
+    ];
+    assert_all(&rt, &parts);
     Ok(())
 }

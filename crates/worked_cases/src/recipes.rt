@@ -1,8 +1,10 @@
 // The studies of docs/recipes.md, which a check after the gate compares with the files of examples/ and with that page, and their reports,
 // which another program computed (tools/oracle).
+use crate::answers::assert_reports;
+use std::test::Fail;
 
 /// examples/moved.toml.
-pub const MOVED: &str =
+const MOVED: &str =
     r#"# The works bus of industrial.toml with a bank of 2.4 MVAr in the place of 4. The six-pulse converters of the works inject at the
 # orders 5, 7, 11 and 13. Is the impedance at most 40 ohms around each of them?
 study = { version = 1, mva = "100" }
@@ -15,7 +17,7 @@ scan = [
 ]
 "#;
 
-pub const MOVED_REPORT: &str = "\
+const MOVED_REPORT: &str = "\
 scan,around-5-and-7,WORKS,positive,4.500000,7.500000,40.000000,elimination
 box,1,4.500000,7.500000,cleared,-,-
 summary,around-5-and-7,1,1,0,0,0
@@ -26,7 +28,7 @@ end,0
 ";
 
 /// examples/voltage.toml.
-pub const VOLTAGE: &str =
+const VOLTAGE: &str =
     r#"# The works bus of industrial.toml. Its converters inject at most 6 A at order 5, 4.2 A at order 7, 2.7 A at order 11 and 2.1 A at
 # order 13, and each voltage may be 3 percent of the phase voltage, which is 190.525 V. So the impedance may be 31.754, 45.363, 70.564
 # and 90.726 ohms there, and between two of these orders what lies on the straight line.
@@ -46,7 +48,7 @@ finest = "0.01"
 locate = "0.4"
 "#;
 
-pub const VOLTAGE_REPORT: &str = "\
+const VOLTAGE_REPORT: &str = "\
 scan,s1,WORKS,positive,5.000000,13.000000,curve,elimination
 box,1,5.000000,6.000000,cleared,-,-
 box,2,6.000000,6.250000,peak,6.250000,58.284809
@@ -61,7 +63,7 @@ end,3
 ";
 
 /// examples/tuned.toml.
-pub const TUNED: &str =
+const TUNED: &str =
     r#"# The works bus of industrial.toml with a filter of 4 MVAr that is tuned to order 5, in the place of the plain bank.
 study = { version = 1, mva = "100" }
 bus = [{ name = "WORKS", kv = "11" }]
@@ -78,7 +80,7 @@ finest = "0.01"
 locate = "0.2"
 "#;
 
-pub const TUNED_REPORT: &str = "\
+const TUNED_REPORT: &str = "\
 scan,s1,WORKS,positive,2.000000,13.000000,20.000000,elimination
 box,1,2.000000,3.375000,cleared,-,-
 box,2,3.375000,3.718750,cleared,-,-
@@ -95,7 +97,7 @@ end,3
 ";
 
 /// examples/detuned.toml.
-pub const DETUNED: &str =
+const DETUNED: &str =
     r#"# The works bus of industrial.toml with a filter of 4 MVAr that is detuned: its reactor of 7 percent sets it to order 3.78, below every order that is injected.
 study = { version = 1, mva = "100" }
 bus = [{ name = "WORKS", kv = "11" }]
@@ -112,7 +114,7 @@ finest = "0.01"
 locate = "0.2"
 "#;
 
-pub const DETUNED_REPORT: &str = "\
+const DETUNED_REPORT: &str = "\
 scan,s1,WORKS,positive,2.000000,13.000000,20.000000,elimination
 box,1,2.000000,2.687500,cleared,-,-
 box,2,2.687500,3.031250,cleared,-,-
@@ -129,7 +131,7 @@ end,0
 ";
 
 /// examples/section.toml.
-pub const SECTION: &str = r#"# A cable of 40 km to a works at 132 kV, as one section.
+const SECTION: &str = r#"# A cable of 40 km to a works at 132 kV, as one section.
 study = { version = 1, mva = "100", method = "branchwise" }
 bus = [{ name = "GRID", kv = "132" }, { name = "WORKS", kv = "132" }]
 source = [{ name = "S1", bus = "GRID", r = "0.8", x = "8" }]
@@ -145,7 +147,7 @@ finest = "0.02"
 locate = "0.5"
 "#;
 
-pub const SECTION_REPORT: &str = "\
+const SECTION_REPORT: &str = "\
 scan,s1,WORKS,positive,2.000000,25.000000,300.000000,branchwise
 box,1,2.000000,3.437500,cleared,-,-
 box,2,3.437500,4.875000,cleared,-,-
@@ -173,8 +175,7 @@ end,3
 ";
 
 /// examples/sections.toml.
-pub const SECTIONS: &str =
-    r#"# A cable of 40 km to a works at 132 kV, as a cascade of eight sections.
+const SECTIONS: &str = r#"# A cable of 40 km to a works at 132 kV, as a cascade of eight sections.
 study = { version = 1, mva = "100", method = "branchwise" }
 bus = [{ name = "GRID", kv = "132" }, { name = "WORKS", kv = "132" }]
 source = [{ name = "S1", bus = "GRID", r = "0.8", x = "8" }]
@@ -190,7 +191,7 @@ finest = "0.02"
 locate = "0.5"
 "#;
 
-pub const SECTIONS_REPORT: &str = "\
+const SECTIONS_REPORT: &str = "\
 scan,s1,WORKS,positive,2.000000,25.000000,300.000000,branchwise
 box,1,2.000000,3.437500,cleared,-,-
 box,2,3.437500,4.875000,cleared,-,-
@@ -211,7 +212,7 @@ end,3
 ";
 
 /// examples/zero.toml.
-pub const ZERO: &str =
+const ZERO: &str =
     r#"# A works behind a transformer whose delta winding looks to the grid, with a grounded bank. In the zero sequence the grid isn't seen:
 # the bank is in resonance with the transformer alone.
 study = { version = 1, mva = "100" }
@@ -225,7 +226,7 @@ scan = [
 ]
 "#;
 
-pub const ZERO_REPORT: &str = "\
+const ZERO_REPORT: &str = "\
 scan,positive,WORKS,positive,2.000000,13.000000,200.000000,elimination
 box,1,2.000000,3.375000,cleared,-,-
 box,2,3.375000,4.750000,cleared,-,-
@@ -255,7 +256,7 @@ end,3
 ";
 
 /// examples/open.toml.
-pub const OPEN: &str =
+const OPEN: &str =
     r#"# The study of both.toml by elimination alone: near order 16 the bank and the cable are in resonance behind the intake, elimination
 # divides by an interval that holds zero, and one box stays undecided.
 study = { version = 1, mva = "100" }
@@ -274,7 +275,7 @@ finest = "1"
 locate = "4"
 "#;
 
-pub const OPEN_REPORT: &str = "\
+const OPEN_REPORT: &str = "\
 scan,s1,INTAKE,positive,10.000000,25.000000,50.000000,elimination
 box,1,10.000000,10.937500,cleared,-,-
 box,2,10.937500,11.875000,cleared,-,-
@@ -290,7 +291,7 @@ end,4
 ";
 
 /// examples/branchwise.toml.
-pub const BRANCHWISE: &str =
+const BRANCHWISE: &str =
     r#"# The study of open.toml, branch by branch: near order 16 the bank and the cable are in resonance behind the intake, and nothing of it
 # is seen at the intake itself.
 study = { version = 1, mva = "100", method = "branchwise" }
@@ -309,9 +310,25 @@ finest = "1"
 locate = "4"
 "#;
 
-pub const BRANCHWISE_REPORT: &str = "\
+const BRANCHWISE_REPORT: &str = "\
 scan,s1,INTAKE,positive,10.000000,25.000000,50.000000,branchwise
 box,1,10.000000,25.000000,cleared,-,-
 summary,s1,1,1,0,0,0
 end,0
 ";
+
+#[test]
+fn recipes(rt: HostRuntime) -> Result<(), Fail> {
+    let cases = [
+        (MOVED, MOVED_REPORT, 0),
+        (VOLTAGE, VOLTAGE_REPORT, 3),
+        (TUNED, TUNED_REPORT, 3),
+        (DETUNED, DETUNED_REPORT, 0),
+        (SECTION, SECTION_REPORT, 3),
+        (SECTIONS, SECTIONS_REPORT, 3),
+        (ZERO, ZERO_REPORT, 3),
+        (OPEN, OPEN_REPORT, 4),
+        (BRANCHWISE, BRANCHWISE_REPORT, 0),
+    ];
+    assert_reports(&rt, rt.alloc(), &cases)
+}

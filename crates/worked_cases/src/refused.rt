@@ -5,10 +5,25 @@ use std::alloc::Global;
 use std::process::Abort;
 use std::test::Fail;
 
+#[test]
+fn no_toml(rt: HostRuntime) -> Result<(), Fail> {
+    let cases: [&[u8]; 3] = [b"[study", b"study = \xff\n", b"\xc3"];
+    for study in cases {
+        let mut shelf = shelf_with(rt.alloc(), study)?;
+        let answer = Answer {
+            status: 2,
+            out: "",
+            err: "harmscan: study refused: 1 NotToml\n",
+        };
+        assert_answer(&rt, rt.alloc(), &SCAN, &mut shelf, &answer)?;
+    }
+    Ok(())
+}
+
 /// Runs `scan` on a study, which has to be refused so.
-fn assert_refused(rt: &impl Abort, alloc: Global, study: &[u8], refusal: &str) -> Result<(), Fail> {
+fn assert_refused(rt: &impl Abort, alloc: Global, study: &str, refusal: &str) -> Result<(), Fail> {
     let line = joined(alloc, &["harmscan: study refused: ", refusal, "\n"])?;
-    let mut shelf = shelf_with(alloc, study)?;
+    let mut shelf = shelf_with(alloc, study.as_bytes())?;
     let answer = Answer {
         status: 2,
         out: "",
@@ -21,86 +36,102 @@ fn assert_refused(rt: &impl Abort, alloc: Global, study: &[u8], refusal: &str) -
 fn assert_each(
     rt: &impl Abort,
     alloc: Global,
-    before: &[&str],
+    before: &str,
     cases: &[(&str, &str)],
-    behind: &[&str],
+    behind: &str,
 ) -> Result<(), Fail> {
-    let before = joined(alloc, before)?;
-    let behind = joined(alloc, behind)?;
     for (piece, refusal) in cases {
-        let study = joined(alloc, &[&before, piece, &behind])?;
-        assert_refused(rt, alloc, study.as_bytes(), refusal)?;
+        let study = joined(alloc, &[before, piece, behind])?;
+        assert_refused(rt, alloc, &study, refusal)?;
     }
     Ok(())
 }
-
-/// Pieces with their refusals, and what stands before and behind each of them.
-type Table<'a> = (&'a [&'a str], &'a [(&'a str, &'a str)], &'a [&'a str]);
-
-const PLANT: [&str; 3] = [refusals::STUDY, refusals::BUSES, refusals::SOURCE];
-
-const PLANT_WITH_A_BANK: [&str; 4] = [
-    refusals::STUDY,
-    refusals::BUSES,
-    refusals::SOURCE,
-    "bank = [{ name = \"K1\", bus = \"B2\", q = 1 }]\n",
-];
 
 #[test]
 fn refused_documents(rt: HostRuntime) -> Result<(), Fail> {
-    let no_toml: [&[u8]; 3] = [b"[study", b"study = \xff\n", b"\xc3"];
-    for study in no_toml {
-        assert_refused(&rt, rt.alloc(), study, "1 NotToml")?;
-    }
-    Ok(())
+    assert_each(&rt, rt.alloc(), "", &refusals::DOCUMENTS, "")
 }
 
 #[test]
-fn refused_sections(rt: HostRuntime) -> Result<(), Fail> {
-    let tables: [Table<'_>; 14] = [
-        (&[], &refusals::DOCUMENTS, &[]),
-        (
-            &["study = { "],
-            &refusals::HEADERS,
-            &[" }\n", refusals::ONE_BUS],
-        ),
-        (&[refusals::STUDY], &refusals::BUS_LISTS, &[]),
-        (
-            &[refusals::STUDY, refusals::BUSES],
-            &refusals::SOURCE_LISTS,
-            &[],
-        ),
-        (&PLANT, &refusals::LINE_LISTS, &[]),
-        (&PLANT, &refusals::TRANSFORMER_LISTS, &[]),
-        (&PLANT, &refusals::LOAD_LISTS, &[]),
-        (&PLANT, &refusals::SCAN_LISTS, &[]),
-        (
-            &[curve_refusals::STUDY, refusals::ONE_BUS],
-            &curve_refusals::SCAN_LISTS,
-            &[],
-        ),
-        (
-            &[refusals::STUDY, refusals::ONE_BUS],
-            &curve_refusals::OLDER_LISTS,
-            &[],
-        ),
-        (&PLANT_WITH_A_BANK, &refusals::POINT_LISTS, &[]),
-        (
-            &[refusals::PHASES, refusals::BUSES],
-            &refusals::PHASE_LISTS,
-            &[],
-        ),
-        (
-            &[refusals::BUSES, refusals::SOURCE],
-            &refusals::OTHER_FORMS,
-            &[],
-        ),
-        (&[refusals::STUDY], &refusals::FLOATING, &[]),
+fn refused_headers(rt: HostRuntime) -> Result<(), Fail> {
+    let behind = joined(rt.alloc(), &[" }\n", refusals::ONE_BUS])?;
+    assert_each(&rt, rt.alloc(), "study = { ", &refusals::HEADERS, &behind)
+}
+
+#[test]
+fn refused_buses(rt: HostRuntime) -> Result<(), Fail> {
+    assert_each(&rt, rt.alloc(), refusals::STUDY, &refusals::BUS_LISTS, "")
+}
+
+/// Refusals of sections behind these pieces.
+fn assert_behind(
+    rt: &impl Abort,
+    alloc: Global,
+    pieces: &[&str],
+    cases: &[(&str, &str)],
+) -> Result<(), Fail> {
+    let before = joined(alloc, pieces)?;
+    assert_each(rt, alloc, &before, cases, "")
+}
+
+const PLANT: [&str; 3] = [refusals::STUDY, refusals::BUSES, refusals::SOURCE];
+
+#[test]
+fn refused_sources(rt: HostRuntime) -> Result<(), Fail> {
+    let pieces = [refusals::STUDY, refusals::BUSES];
+    assert_behind(&rt, rt.alloc(), &pieces, &refusals::SOURCE_LISTS)
+}
+
+#[test]
+fn refused_branches(rt: HostRuntime) -> Result<(), Fail> {
+    assert_behind(&rt, rt.alloc(), &PLANT, &refusals::LINE_LISTS)?;
+    assert_behind(&rt, rt.alloc(), &PLANT, &refusals::TRANSFORMER_LISTS)
+}
+
+#[test]
+fn refused_loads(rt: HostRuntime) -> Result<(), Fail> {
+    assert_behind(&rt, rt.alloc(), &PLANT, &refusals::LOAD_LISTS)
+}
+
+#[test]
+fn refused_scans(rt: HostRuntime) -> Result<(), Fail> {
+    assert_behind(&rt, rt.alloc(), &PLANT, &refusals::SCAN_LISTS)
+}
+
+#[test]
+fn refused_curves(rt: HostRuntime) -> Result<(), Fail> {
+    let newer = [curve_refusals::STUDY, refusals::ONE_BUS];
+    assert_behind(&rt, rt.alloc(), &newer, &curve_refusals::SCAN_LISTS)?;
+    let older = [refusals::STUDY, refusals::ONE_BUS];
+    assert_behind(&rt, rt.alloc(), &older, &curve_refusals::OLDER_LISTS)
+}
+
+#[test]
+fn refused_points(rt: HostRuntime) -> Result<(), Fail> {
+    let pieces = [
+        refusals::STUDY,
+        refusals::BUSES,
+        refusals::SOURCE,
+        "bank = [{ name = \"K1\", bus = \"B2\", q = 1 }]\n",
     ];
-    for (before, cases, behind) in tables {
-        assert_each(&rt, rt.alloc(), before, cases, behind)?;
-    }
-    Ok(())
+    assert_behind(&rt, rt.alloc(), &pieces, &refusals::POINT_LISTS)
+}
+
+#[test]
+fn refused_phase_networks(rt: HostRuntime) -> Result<(), Fail> {
+    let pieces = [refusals::PHASES, refusals::BUSES];
+    assert_behind(&rt, rt.alloc(), &pieces, &refusals::PHASE_LISTS)
+}
+
+#[test]
+fn forms_that_are_not_built(rt: HostRuntime) -> Result<(), Fail> {
+    let pieces = [refusals::BUSES, refusals::SOURCE];
+    assert_behind(&rt, rt.alloc(), &pieces, &refusals::OTHER_FORMS)
+}
+
+#[test]
+fn networks_that_hang_in_the_air(rt: HostRuntime) -> Result<(), Fail> {
+    assert_each(&rt, rt.alloc(), refusals::STUDY, &refusals::FLOATING, "")
 }
 
 /// A section of so many empty entries.
@@ -117,12 +148,12 @@ fn empty_entries(alloc: Global, section: &str, count: u32) -> Result<String, Fai
 fn assert_counts(
     rt: &impl Abort,
     alloc: Global,
-    before: &[&str],
+    before: &str,
     cases: &[(&str, u32, &str)],
 ) -> Result<(), Fail> {
     for (section, count, refusal) in cases {
         let entries = empty_entries(alloc, section, *count)?;
-        assert_each(rt, alloc, before, &[(&entries, refusal)], &[])?;
+        assert_each(rt, alloc, before, &[(&entries, refusal)], "")?;
     }
     Ok(())
 }
@@ -149,7 +180,7 @@ const COUNTS: [(&str, u32, &str); 12] = [
 
 #[test]
 fn sections_of_too_many_entries(rt: HostRuntime) -> Result<(), Fail> {
-    assert_counts(&rt, rt.alloc(), &[refusals::STUDY], &BUS_COUNTS)?;
-    let before = [refusals::STUDY, refusals::ONE_BUS];
+    let before = joined(rt.alloc(), &[refusals::STUDY, refusals::ONE_BUS])?;
+    assert_counts(&rt, rt.alloc(), refusals::STUDY, &BUS_COUNTS)?;
     assert_counts(&rt, rt.alloc(), &before, &COUNTS)
 }
