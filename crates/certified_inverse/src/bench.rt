@@ -41,8 +41,8 @@ impl<E: Enclosure> Model for InverseBench<E> {
     ghost invariant = { λ b. record { few : b.size ≤ MAX_SIZE; inverse_in : b.inverse.size ≡ b.size; x_in : length b.x.items ≡ b.size; left_in : length b.left.items ≡ b.size; sums_in : length b.sums.items ≡ b.size; ways_in : length b.ways.items ≡ b.size; ways_wide : All (λ r. length r.items ≡ b.size + 1) b.ways.items } };
 }
 
-// A way for each of so many rows.
-fn way_rows(alloc: Global, size: usize) -> Result<Vec<Vec<u32>>, AllocError>
+/// Room for a way over each of so many rows. It takes memory.
+pub fn way_rows(alloc: Global, size: usize) -> Result<Vec<Vec<u32>>, AllocError>
     requires { size ≤ MAX_SIZE }
     ensures count { IfOk result (λ rows. length rows.items ≡ size) }
     ensures wide { IfOk result (λ rows. All (λ r. length r.items ≡ size + 1) rows.items) }

@@ -10,9 +10,10 @@ mod sums;
 mod theta;
 mod ways;
 
-pub use bench::InverseBench;
+pub use bench::{InverseBench, way_rows};
 pub use laws::{certificate_holds, worked_certificates};
 pub use outcome::InverseOutcome;
 pub use sigma::take_away;
 pub use size::{in_size, unit_of};
-pub use sums::combine;
+pub use sums::combine_listed;
+pub use ways::write_ways;

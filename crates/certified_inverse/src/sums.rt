@@ -37,36 +37,6 @@ pub fn sum_products<E: Enclosure>(first: Rect<E>, cs: &[Rect<E>], xs: &[Rect<E>]
     Some(sum)
 }
 
-// A row times a factor, on top of the sums.
-fn add_row<E: Enclosure>(sums: &mut [Rect<E>], f: Rect<E>, row: &[Rect<E>]) -> Option<()>
-    requires { length sums.old ≡ length row.now }
-    ensures { option_map (λ _. map (rectangle_of E.ends) sums.new) result
-        ≡ each_two (add_times E.SCALE (rectangle_of E.ends f)) (map (rectangle_of E.ends) sums.old) (map (rectangle_of E.ends) row.now) }
-{
-    for i in 0..sums.len() {
-        sums[i] = add_times(f, sums[i], row[i])?;
-    }
-    Some(())
-}
-
-/// The sum of the matrix's rows, each times its factor.
-pub fn combine<E: Enclosure>(
-    sums: &mut [Rect<E>],
-    factors: &[Rect<E>],
-    matrix: &Matrix<E>,
-) -> Option<()>
-    requires sums_in { length sums.old ≡ matrix.now.size }
-    requires factors_in { length factors.now ≡ matrix.now.size }
-    ensures { option_map (λ _. map (rectangle_of E.ends) sums.new) result
-        ≡ combination E.SCALE (replicate matrix.now.size nought_rectangle) (map (rectangle_of E.ends) factors.now) matrix.now.rows }
-{
-    clear_cells(sums);
-    for i in 0..matrix.size() {
-        add_row(sums, factors[i as usize], matrix.row(i))?;
-    }
-    Some(())
-}
-
 // A row times a factor, on top of the sums. `next` leads over zeros of the row, where nothing changes.
 fn add_listed<E: Enclosure>(
     sums: &mut [Rect<E>],

@@ -28,7 +28,7 @@ fn write_way<E: Enclosure>(next: &mut [u32], row: &[Rect<E>])
     }
 }
 
-/// So of each row of the matrix.
+/// Of each row of the matrix, and of each place in it, the next whose entry isn't zero.
 pub fn write_ways<E: Enclosure>(ways: &mut [Vec<u32>], matrix: &Matrix<E>)
     requires few { matrix.now.size ≤ MAX_SIZE }
     requires count { length ways.old ≡ matrix.now.size }

@@ -3,6 +3,7 @@
 
 mod bench;
 mod columns;
+mod divisor;
 mod fault;
 mod next;
 mod point;

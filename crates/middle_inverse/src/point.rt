@@ -6,8 +6,10 @@ ghost use Rattle.exact_algebra.specs.Floor.{floor_div, ceil_div};
 ghost use Rattle.complex_interval.specs.Rect.{rectangle_of};
 ghost use Rattle.plain_elimination.specs.Matrix.{nought_rectangle};
 ghost use Rattle.middle_inverse.specs.Inverse.{point_ends, low_point, middle_of, middle_point, one_rectangle, point_quotient, point_less, size_of};
+ghost use Rattle.middle_inverse.specs.Divisor.{divisor_of, divided_by, divisor_ends};
 ghost use Rattle.middle_inverse.specs.Points.{rectangle_at};
 
+use crate::divisor::{Divisor, divide};
 use crate::raw::Point;
 use complex_interval::{Enclosure, Rect};
 
@@ -137,12 +139,23 @@ pub fn is_nought(x: Point) -> bool
     x.re == 0 && x.im == 0
 }
 
-/// a/b, with the low ends kept.
-pub fn quotient<E: Enclosure>(a: Point, b: Point) -> Option<Point>
+// The quotient of a by a divisor, with the low ends kept.
+fn quotient_over<E: Enclosure>(a: Point, d: Divisor<E>) -> Option<Point>
+    ensures { option_map rectangle_at result ≡ option_map low_point (divided_by E.SCALE (rectangle_at a) (divisor_ends E.ends d)) }
+{
+    let whole = divide(rect_at::<E>(a), d)?;
+    Some(low_point(whole))
+}
+
+/// a/b, with the low ends kept, where it is known what quotients by b need.
+pub fn quotient<E: Enclosure>(a: Point, b: Point, divisor: Option<Divisor<E>>) -> Option<Point>
+    requires { option_map (divisor_ends E.ends) divisor ≡ divisor_of E.SCALE (rectangle_at b) }
     ensures { option_map rectangle_at result ≡ point_quotient E.SCALE (rectangle_at a) (rectangle_at b) }
 {
-    let whole = rect_at::<E>(a).div(rect_at(b))?;
-    Some(low_point(whole))
+    match divisor {
+        Some(d) => quotient_over(a, d),
+        None => None,
+    }
 }
 
 // a - f a0, by rectangles.

@@ -6,21 +6,29 @@ ghost use Rattle.plain_elimination.specs.Matrix.{nought_rectangle};
 ghost use Rattle.middle_inverse.specs.Leads.{LeadsOver};
 ghost use Rattle.middle_inverse.specs.Lists.{each, each_two, first_greatest};
 ghost use Rattle.middle_inverse.specs.Inverse.{divided_row, cleared_row, point_less, point_quotient, size_at};
+ghost use Rattle.middle_inverse.specs.Divisor.{divisor_of, divisor_ends};
 ghost use Rattle.middle_inverse.specs.Points.{rectangle_at};
 
-use crate::point::{is_nought, less_times, nought, quotient, size_at_point};
+use crate::divisor::{Divisor, divisor_of};
+use crate::point::{is_nought, less_times, nought, quotient, rect_at, size_at_point};
 use crate::raw::Point;
 use complex_interval::Enclosure;
 
-// a/b, where 0/b is known.
-fn quotient_by<E: Enclosure>(a: Point, b: Point, of_nought: Option<Point>) -> Option<Point>
-    requires { option_map rectangle_at of_nought ≡ point_quotient E.SCALE nought_rectangle (rectangle_at b) }
+// a/b, where 0/b is known, and what quotients by b need.
+fn quotient_by<E: Enclosure>(
+    a: Point,
+    b: Point,
+    divisor: Option<Divisor<E>>,
+    of_nought: Option<Point>,
+) -> Option<Point>
+    requires divisor { option_map (divisor_ends E.ends) divisor ≡ divisor_of E.SCALE (rectangle_at b) }
+    requires nought { option_map rectangle_at of_nought ≡ point_quotient E.SCALE nought_rectangle (rectangle_at b) }
     ensures { option_map rectangle_at result ≡ point_quotient E.SCALE (rectangle_at a) (rectangle_at b) }
 {
     if is_nought(a) {
         of_nought
     } else {
-        quotient::<E>(a, b)
+        quotient::<E>(a, b, divisor)
     }
 }
 
@@ -28,9 +36,10 @@ fn quotient_by<E: Enclosure>(a: Point, b: Point, of_nought: Option<Point>) -> Op
 pub fn divide_row<E: Enclosure>(row: &mut [Point], pivot: Point) -> Option<()>
     ensures { option_map (λ _. map rectangle_at row.new) result ≡ divided_row E.SCALE (rectangle_at pivot) (map rectangle_at row.old) }
 {
-    let of_nought = quotient::<E>(nought(), pivot);
+    let divisor = divisor_of(rect_at::<E>(pivot));
+    let of_nought = quotient::<E>(nought(), pivot, divisor);
     for i in 0..row.len() {
-        row[i] = quotient_by::<E>(row[i], pivot, of_nought)?;
+        row[i] = quotient_by::<E>(row[i], pivot, divisor, of_nought)?;
     }
     Some(())
 }

@@ -15,5 +15,5 @@ loop-i-preserved g c =
     let rectangle = rectangle_at in
     each_more rectangle (λ a. point_quotient g.E.Enclosure.SCALE a (rectangle c.args.pivot)) c.args.row.now c.loop-i.row c.loop-i.i c.index-row-i.result c.in_ok-row.field-0 (omega arith) c.index-row-i.is c.in_ok-row.ensures c.loop-i.invariant
 
-pub quotient_by-requires : goal.quotient_by-requires
-quotient_by-requires g c = c.quotient-of_nought.ensures ∙ ap (λ z. point_quotient g.E.Enclosure.SCALE z (rectangle_at c.args.pivot)) c.nought.ensures
+pub quotient_by-requires-clause-nought : goal.quotient_by-requires-clause-nought
+quotient_by-requires-clause-nought g c = c.quotient-of_nought.ensures ∙ ap (λ z. point_quotient g.E.Enclosure.SCALE z (rectangle_at c.args.pivot)) c.nought.ensures
