@@ -1,5 +1,5 @@
 -- What counts at drops, in place.
-use Rattle.std.proofs.Common.{◌≡◌, ◌∙◌, ℕ, zero, suc, ◌+◌, ◌-◌, ◌<◌, ◌≤◌, Bool, true, false, List, [], ◌∷◌, ◌++◌, length, get_or, set, take, drop, map, pos, Option, Some, None, refl, sym, ap, subst, arith, length-append}
+use Rattle.std.proofs.Common.{◌≡◌, ◌∙◌, ℕ, zero, suc, ◌+◌, ◌-◌, ◌<◌, ◌≤◌, Bool, true, false, List, [], ◌∷◌, ◌++◌, length, get_or, set, take, drop, map, pos, Option, Some, None, refl, sym, ap, arith, length-append}
 use Rattle.std.specs.Prelude.{slice_get, slice_set, int_lt, if◌then◌else◌}
 use Rattle.std.specs.Option.{option_map}
 use Rattle.std.proofs.lemmas.List.{map-set, take_more_set, take_all, length-map}
@@ -13,7 +13,8 @@ use Rattle.admittance_box.specs.BoxMatrix.{law_rectangle}
 use Rattle.admittance_box.specs.Exact.{one_ends}
 use Rattle.admittance_box.specs.Steps.{◌>>=◌}
 use Rattle.branchwise_test.specs.Drops.{LiveBranch, DropEnds, raised, counted, extra_branch, with_extra_branch, with_branch, with_branches}
-use Rattle.branchwise_bench.specs.Layout.{bare, bare_node, bare_nodes, own_drop, own_drops, own_count, raised_at, with_extra, counted_all}
+use Rattle.branchwise_bench.specs.Layout.{bare_node, bare_nodes, own_drop, own_drops, own_count, raised_at, with_extra, counted_all}
+use Rattle.drop_bench.specs.Drops.{bare}
 
 -- ---- lists
 drop_next : {X : Type 0} (n : ℕ) (xs : List X) (y : X) (ys : List X) → drop n xs ≡ y ∷ ys → drop (n + 1) xs ≡ ys

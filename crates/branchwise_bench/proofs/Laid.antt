@@ -1,5 +1,5 @@
 -- Drops as they are laid out for a pair of networks, and the estimate by what counts at them.
-use Rattle.std.proofs.Common.{◌≡◌, ◌∙◌, ℕ, zero, suc, ◌+◌, ◌-◌, ◌*◌, ◌^◌, ◌<◌, ◌≤◌, Bool, true, false, List, [], ◌∷◌, ◌++◌, length, map, pos, ℤ, ◌<ℤ◌, Option, Some, None, Result, Ok, Err, refl, sym, ap, ap₂, subst, arith}
+use Rattle.std.proofs.Common.{◌≡◌, ◌∙◌, ℕ, zero, suc, ◌+◌, ◌-◌, ◌<◌, ◌≤◌, Bool, true, false, List, [], ◌∷◌, ◌++◌, length, map, pos, Option, Some, None, Result, Err, refl, sym, ap, subst, arith}
 use Rattle.std.specs.Prelude.{if◌then◌else◌}
 use Rattle.std.specs.List.{All, AllByRecursion}
 use Rattle.std.proofs.lemmas.List.Elements.{All-nil, All-cons}
@@ -19,9 +19,9 @@ use Rattle.branchwise_test.specs.declared.fault.BranchwiseFault.{BranchwiseFault
 use Rattle.branchwise_test.specs.declared.fault.BranchwiseFault.TheVariants.{OutOfRange}
 use Rattle.branchwise_test.specs.Drops.{LiveBranch, DropEnds, node_drops, live_branch, live_branches, with_extra_branch, with_branches}
 use Rattle.branchwise_test.specs.Enclosed.{valued, Near, near_of_drops, near_of, near_of_branches}
-use Rattle.branchwise_bench.specs.declared.drops.DropIntervals.{DropIntervals}
-use Rattle.branchwise_bench.specs.Drops.{drop_ends, IsInside}
-use Rattle.branchwise_bench.specs.Layout.{bare, bare_node, bare_nodes, own_drop, own_drops, counted_all, IsPairInside, AreInside}
+use Rattle.drop_bench.specs.declared.drops.DropIntervals.{DropIntervals}
+use Rattle.drop_bench.specs.Drops.{drop_ends, bare, IsInside}
+use Rattle.branchwise_bench.specs.Layout.{bare_nodes, own_drop, own_drops, counted_all, IsPairInside, AreInside}
 use Rattle.branchwise_bench.proofs.Counting.{nodes_count}
 
 -- ---- places

@@ -10,10 +10,6 @@ use Rattle.admittance_box.specs.Exact.{one_ends}
 use Rattle.admittance_box.specs.Steps.{◌>>=◌}
 use Rattle.branchwise_test.specs.Drops.{LiveBranch, DropEnds, node_tap, raised, extra_branch, with_extra_branch, with_branch, with_branches}
 
--- a drop without what counts at it
-abbrev pub bare : DropEnds → DropEnds
-bare d = record { taps = d.taps; pairs = d.pairs; middle = nought_rectangle; rest = nought_rectangle }
-
 -- the drop of a node alone
 abbrev pub bare_node : ℕ → ℕ → DropEnds
 bare_node s place = record { taps = node_tap s place ∷ []; pairs = record { row = place; column = place; factor = one_ends s } ∷ []; middle = nought_rectangle; rest = nought_rectangle }

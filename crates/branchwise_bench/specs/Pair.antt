@@ -3,7 +3,7 @@ use Rattle.std.specs.Prelude.{◌≡◌, ℕ, ◌<◌, ◌≤◌, List, ◌++◌
 use Rattle.plain_elimination.specs.declared.limits.TheConstants.{MAX_SIZE}
 use Rattle.admittance_box.specs.Assembled.{Assembled}
 use Rattle.branchwise_test.specs.Drops.{LiveBranch, DropEnds, live_branches}
-use Rattle.branchwise_bench.specs.Bench.{BenchSize}
+use Rattle.drop_bench.specs.Bench.{BenchSize}
 use Rattle.branchwise_bench.specs.Layout.{bare_nodes, own_drops, AreInside}
 
 -- the number of live nodes, and the live branches

@@ -3,51 +3,19 @@ ghost use Rattle.std.specs.Prelude.{◌≡◌, ◌+◌, ◌<◌, ◌≤◌, ◌+
 ghost use Rattle.std.specs.Option.{option_map};
 ghost use Rattle.exact_fraction.specs.Fraction.{ratio_of};
 ghost use Rattle.complex_interval.specs.Rect.{rectangle_of};
-ghost use Rattle.branchwise_test.specs.Drops.{raised, counted, with_branch, with_branches};
-ghost use Rattle.branchwise_bench.specs.Drops.{drop_ends};
-ghost use Rattle.branchwise_bench.specs.Layout.{bare, bare_nodes, own_drops, own_count, BeginsWithOwn, raised_at, with_extra, counted_all};
+ghost use Rattle.branchwise_test.specs.Drops.{counted, with_branch, with_branches};
+ghost use Rattle.drop_bench.specs.Drops.{drop_ends, bare};
+ghost use Rattle.branchwise_bench.specs.Layout.{bare_nodes, own_drops, own_count, BeginsWithOwn, raised_at, with_extra, counted_all};
 ghost use Rattle.branchwise_bench.specs.Live.{live_ends};
 
-use crate::drops::DropIntervals;
 use crate::live::LiveBranchIntervals;
 use admittance_box::{exact_one, shunt_admittance};
 use complex_interval::{Enclosure, Rect};
+use drop_bench::DropIntervals;
 use exact_fraction::Fraction;
-use middle_inverse::{middle_rectangle, nought_point};
+use middle_inverse::middle_rectangle;
 
-impl<E: Enclosure> DropIntervals<E> {
-    // Takes away what counts at the drop.
-    fn clear(&mut self)
-        ensures { drop_ends E.ends self.new ≡ bare (drop_ends E.ends self.old) }
-    {
-        self.middle = nought_point();
-        self.rest = nought_point();
-    }
-
-    // An admittance more counts at the drop, times a factor.
-    fn raise(&mut self, middle: Rect<E>, rest: Rect<E>, factor: E) -> Option<()>
-        ensures value { option_map (λ _. drop_ends E.ends self.new) result ≡ raised E.SCALE (rectangle_of E.ends middle) (rectangle_of E.ends rest) (E.ends factor) (drop_ends E.ends self.old) }
-        ensures bare { bare (drop_ends E.ends self.new) ≡ bare (drop_ends E.ends self.old) }
-    {
-        let m = middle.scale(factor)?;
-        let r = rest.scale(factor)?;
-        let middle = self.middle.add(m)?;
-        let rest = self.rest.add(r)?;
-        self.middle = middle;
-        self.rest = rest;
-        Some(())
-    }
-
-    // One admittance alone counts at the drop.
-    fn set(&mut self, middle: Rect<E>, rest: Rect<E>)
-        ensures { drop_ends E.ends self.new ≡ record (drop_ends E.ends self.old) { middle = rectangle_of E.ends middle; rest = rectangle_of E.ends rest } }
-    {
-        self.middle = middle;
-        self.rest = rest;
-    }
-}
-
-// So at each drop.
+// Takes away what counts at each drop.
 fn clear<E: Enclosure>(drops: &mut [DropIntervals<E>])
     ensures { map (drop_ends E.ends) drops.new ≡ map bare (map (drop_ends E.ends) drops.old) }
 {

@@ -3,23 +3,21 @@ ghost use Rattle.std.specs.Prelude.{◌≡◌, ◌<◌, ◌≤◌, IfOk, Some, l
 ghost use Rattle.std.specs.Option.{option_map};
 ghost use Rattle.exact_fraction.specs.Fraction.{ratio_of};
 ghost use Rattle.branchwise_test.specs.Enclosed.{near_of_branches};
-ghost use Rattle.branchwise_bench.specs.Drops.{drop_ends};
-ghost use Rattle.branchwise_bench.specs.Layout.{bare, AreInside};
+ghost use Rattle.drop_bench.specs.Drops.{drop_ends, bare};
+ghost use Rattle.branchwise_bench.specs.Layout.{AreInside};
 ghost use Rattle.branchwise_bench.specs.Live.{live_ends};
-ghost use Rattle.branchwise_bench.specs.Near.{near_of};
+ghost use Rattle.drop_bench.specs.Near.{near_of};
 ghost use Rattle.branchwise_bench.specs.Pair.{LivePair, BranchwisePair, branchwise_pair, IsLaidOut};
-ghost use Rattle.branchwise_bench.specs.Results.{result_of};
+ghost use Rattle.drop_bench.specs.Results.{result_of};
 ghost use Rattle.plain_elimination.specs.declared.limits.TheConstants.{MAX_SIZE};
 
-use crate::bench::DropBench;
 use crate::count::count_all;
-use crate::drops::DropIntervals;
 use crate::layout::{node_drops, push_own_drops};
 use crate::live::{LiveBranchIntervals, push_live_branches};
-use crate::near::Near;
 use admittance_box::{Assembly, order_range};
 use branchwise_test::BranchwiseFault;
 use complex_interval::Enclosure;
+use drop_bench::{DropBench, DropIntervals, Near};
 use exact_fraction::Fraction;
 use std::alloc::{AllocError, Global};
 use std::marker::Model;
@@ -35,8 +33,7 @@ struct LiveBench<E: Enclosure> {
 
 impl<E: Enclosure> Model for LiveBench<E> {
     ghost use Rattle.std.specs.Prelude.{map};
-    ghost use Rattle.branchwise_bench.specs.Drops.{drop_ends};
-    ghost use Rattle.branchwise_bench.specs.Layout.{bare};
+    ghost use Rattle.drop_bench.specs.Drops.{drop_ends, bare};
     ghost use Rattle.branchwise_bench.specs.Live.{live_ends};
     ghost use Rattle.branchwise_bench.specs.Pair.{LivePair, IsLaidOut};
 

@@ -1,11 +1,11 @@
 // Estimates by the drop of one node.
 ghost use Rattle.std.specs.Prelude.{IfOk};
-ghost use Rattle.branchwise_bench.specs.Drops.{IsInside};
+ghost use Rattle.drop_bench.specs.Drops.{IsInside};
 
 use crate::outcomes::{Cell, Expected, UNIT, expect, found};
 use admittance_box::{PlacedTap, TapProduct};
-use branchwise_bench::{DropBench, DropIntervals};
 use complex_interval::{Enclosure, Rect, Span};
+use drop_bench::{DropBench, DropIntervals};
 use std::alloc::Global;
 use std::test::Fail;
 

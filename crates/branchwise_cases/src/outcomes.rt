@@ -1,7 +1,7 @@
 // What an estimate is found to be, at scale 40.
-use branchwise_bench::Near;
 use branchwise_test::BranchwiseFault;
 use complex_interval::{Enclosure, Rect, Span};
+use drop_bench::Near;
 use std::process::Abort;
 
 /// 1, in units of 1 / 2^40.

@@ -1,7 +1,7 @@
-use Rattle.std.proofs.Common.{◌≡◌, ◌∙◌, ◌∷◌, List, length, map, take, drop, refl, sym, ap, subst, arith, rules, ◌-◌}
+use Rattle.std.proofs.Common.{◌≡◌, ◌∙◌, ◌∷◌, length, map, take, drop, refl, ap, arith, rules, ◌-◌}
 use Rattle.std.proofs.lemmas.List.{length-map}
-use Rattle.branchwise_bench.specs.Drops.{drop_ends}
-use Rattle.branchwise_bench.specs.Layout.{bare, own_drops}
+use Rattle.drop_bench.specs.Drops.{drop_ends, bare}
+use Rattle.branchwise_bench.specs.Layout.{own_drops}
 use Rattle.branchwise_bench.specs.Live.{live_ends}
 use Rattle.branchwise_bench.proofs.Counting.{no_more, first_more, all_taken, next_fits, next_laid}
 use Rattle.branchwise_bench.proofs.count.+count_branches.Goals as goal

@@ -1,5 +1,5 @@
 use Rattle.std.proofs.Common.{◌≡◌, ◌∙◌, get_or, subst, arith}
-use Rattle.branchwise_bench.specs.Drops.{drop_ends}
+use Rattle.drop_bench.specs.Drops.{drop_ends}
 use Rattle.branchwise_bench.proofs.Counting.{bare_more}
 use Rattle.branchwise_bench.proofs.count.clear.Goals as goal
 

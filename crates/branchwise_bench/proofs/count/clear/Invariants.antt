@@ -1,6 +1,5 @@
 use Rattle.std.proofs.Common.{◌≡◌, ◌++◌, drop, map, take}
-use Rattle.branchwise_bench.specs.Drops.{drop_ends}
-use Rattle.branchwise_bench.specs.Layout.{bare}
+use Rattle.drop_bench.specs.Drops.{drop_ends, bare}
 use Rattle.branchwise_bench.proofs.count.clear.Given as goal
 
 abbrev pub invariant-loop-i : goal.invariant-loop-i

@@ -1,9 +1,9 @@
-use Rattle.std.proofs.Common.{◌≡◌, ◌∙◌, ◌-◌, map, take, refl, sym, ap, arith}
+use Rattle.std.proofs.Common.{◌∙◌, map, ap, arith}
 use Rattle.std.proofs.lemmas.List.{length-map}
 use Rattle.std.specs.Option.{option_map}
 use Rattle.exact_fraction.specs.Fraction.{ratio_of}
 use Rattle.branchwise_test.specs.Drops.{with_branches}
-use Rattle.branchwise_bench.specs.Drops.{drop_ends}
+use Rattle.drop_bench.specs.Drops.{drop_ends}
 use Rattle.branchwise_bench.specs.Live.{live_ends}
 use Rattle.branchwise_bench.proofs.Counting.{cleared_bare, cleared_rest, cleared_front, cleared_count, all_counted, none_counted}
 use Rattle.branchwise_bench.proofs.count.count_all.Goals as goal

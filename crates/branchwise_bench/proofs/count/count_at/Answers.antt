@@ -1,7 +1,7 @@
 use Rattle.std.proofs.Common.{◌≡◌, ◌≤◌, length, map, get_or, subst}
 use Rattle.complex_interval.specs.Rect.{rectangle_of}
 use Rattle.admittance_box.specs.Intervals.{placed_ends, pair_ends}
-use Rattle.branchwise_bench.specs.Drops.{drop_ends}
+use Rattle.drop_bench.specs.Drops.{drop_ends}
 use Rattle.branchwise_bench.proofs.Counting.{own_counted, own_bare}
 use Rattle.branchwise_bench.proofs.count.count_at.Goals as goal
 

@@ -8,7 +8,7 @@ use Rattle.complex_interval.specs.Rectangles.{sub_rectangles}
 use Rattle.middle_inverse.specs.Inverse.{middle_point}
 use Rattle.admittance_box.specs.Exact.{one_ends}
 use Rattle.admittance_box.proofs.Ranges.{one_times_one}
-use Rattle.branchwise_bench.specs.Drops.{drop_ends}
+use Rattle.drop_bench.specs.Drops.{drop_ends}
 use Rattle.branchwise_bench.specs.Layout.{raised_at}
 use Rattle.branchwise_bench.proofs.Counting.{all_of, no_admittance, no_rest, extra_raised}
 use Rattle.branchwise_bench.proofs.Laid.{one_range}

@@ -1,4 +1,4 @@
-use Rattle.branchwise_bench.specs.Drops.{drop_ends}
+use Rattle.drop_bench.specs.Drops.{drop_ends}
 use Rattle.complex_interval.specs.Rect.{rectangle_of}
 use Rattle.branchwise_bench.proofs.Counting.{bare_set, raised-either, raised-beyond}
 use Rattle.std.proofs.Common.{◌≡◌, get_or, subst, arith}

@@ -1,4 +1,4 @@
-use Rattle.branchwise_bench.specs.Drops.{drop_ends}
+use Rattle.drop_bench.specs.Drops.{drop_ends}
 use Rattle.branchwise_bench.specs.Layout.{bare_nodes}
 use Rattle.branchwise_bench.proofs.Making.{nodes_more}
 use Rattle.branchwise_bench.proofs.layout.node_drops.Goals as goal

@@ -1,4 +1,4 @@
-use Rattle.std.proofs.Common.{◌≡◌, ◌∙◌, ◌++◌, ◌-◌, List, length, map, take, drop, sym, ap₂}
+use Rattle.std.proofs.Common.{◌≡◌, ◌∙◌, ◌++◌, ◌-◌, length, map, take, drop, sym, ap₂}
 use Rattle.std.specs.Option.{option_map}
 use Rattle.net_branch.specs.Exact.{exact_branch}
 use Rattle.branchwise_test.specs.Drops.{live_branches}

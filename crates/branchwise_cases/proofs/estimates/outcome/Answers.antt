@@ -1,7 +1,7 @@
 use Rattle.std.proofs.Common.{◌≡◌, ◌++◌, [], ◌∷◌, sym, subst, ap, ◌∙◌}
 use Rattle.std.proofs.lemmas.List.Elements.{All-nil, All-cons, All-same}
-use Rattle.branchwise_bench.specs.Bench.{BenchSize}
-use Rattle.branchwise_bench.specs.Drops.{IsInside}
+use Rattle.drop_bench.specs.Bench.{BenchSize}
+use Rattle.drop_bench.specs.Drops.{IsInside}
 use Rattle.branchwise_cases.proofs.estimates.outcome.Goals as goal
 
 pub estimate-requires-clause-inside : goal.estimate-requires-clause-inside

@@ -1,10 +1,10 @@
-use Rattle.std.proofs.Common.{◌≡◌, ◌∙◌, ℕ, List, length, map, Some, None, sym, ap, subst, arith, length-append}
+use Rattle.std.proofs.Common.{◌∙◌, length, map, Some, None, sym, ap, subst, arith, length-append}
 use Rattle.std.specs.List.{All}
 use Rattle.exact_fraction.specs.Fraction.{ratio_of}
 use Rattle.branchwise_test.specs.Enclosed.{near_of_drops, near_of_branches}
-use Rattle.branchwise_bench.specs.Bench.{BenchSize}
-use Rattle.branchwise_bench.specs.Drops.{drop_ends, IsInside}
-use Rattle.branchwise_bench.specs.Layout.{bare, bare_nodes, own_drops, counted_all}
+use Rattle.drop_bench.specs.Bench.{BenchSize}
+use Rattle.drop_bench.specs.Drops.{drop_ends, bare, IsInside}
+use Rattle.branchwise_bench.specs.Layout.{bare_nodes, own_drops, counted_all}
 use Rattle.branchwise_bench.specs.Live.{live_ends}
 use Rattle.branchwise_bench.specs.Pair.{LivePair}
 use Rattle.branchwise_bench.proofs.Counting.{nodes_count}

@@ -1,7 +1,0 @@
-use Rattle.std.proofs.Common.{map}
-use Rattle.branchwise_test.specs.Reach.{add_up}
-use Rattle.branchwise_bench.proofs.Plain.{TwoTo}
-use Rattle.branchwise_bench.proofs.reach.times_numbers.Given as goal
-
-abbrev pub invariant-loop-i : goal.invariant-loop-i
-invariant-loop-i l = TwoTo (add_up l.scale 0) l.initial.far l.far l.numbers l.i

@@ -1,0 +1,6 @@
+pub mod Bench
+pub mod Bounds
+pub mod Columns
+pub mod Drops
+pub mod Near
+pub mod Results
