@@ -2,11 +2,12 @@
 // susceptance; 4 microsiemens at 33 kV are 0.00004356; 4 percent on 33 MVA are 4/33.
 use crate::expected::{Value, assert_value};
 use element_parts::{
-    as_written, impedance, impedance_of_rating, impedance_share, inverse_ratio, percent,
-    susceptance_of_rating, susceptance_share, triple_impedance, zero,
+    as_written, difference_share, impedance, impedance_of_rating, impedance_share, inverse_ratio,
+    percent, power_in, susceptance_of_rating, susceptance_share, triple_impedance, zero,
 };
 use exact_fraction::Fraction;
 use fixed_decimal::Decimal;
+use study_model::Phase;
 
 const BASE: Decimal = Decimal {
     millionths: 100_000_000,
@@ -20,8 +21,12 @@ const FOUR: Decimal = Decimal {
     millionths: 4_000_000,
 };
 
+const SIX: Decimal = Decimal {
+    millionths: 6_000_000,
+};
+
 /// Each value with its label and what it is worth. It has no contract, so that no case is proved under what is proved of them.
-fn found() -> [(&'static str, Fraction, Value); 10] {
+fn found() -> [(&'static str, Fraction, Value); 12] {
     [
         ("as written", as_written(FOUR), (4, 1)),
         ("zero", zero(), (0, 1)),
@@ -42,13 +47,23 @@ fn found() -> [(&'static str, Fraction, Value); 10] {
             (2_178, 100_000_000),
         ),
         (
+            "half of 6 - 4 microsiemens",
+            difference_share(SIX, FOUR, BASE, KV33, 2),
+            (1_089, 100_000_000),
+        ),
+        (
+            "impedance of three times a rating",
+            impedance_of_rating(power_in(Some(Phase::B), FOUR), BASE),
+            (25, 3),
+        ),
+        (
             "impedance of a rating",
-            impedance_of_rating(FOUR, BASE),
+            impedance_of_rating(power_in(None, FOUR), BASE),
             (25, 1),
         ),
         (
             "susceptance of a rating",
-            susceptance_of_rating(FOUR, BASE),
+            susceptance_of_rating(power_in(None, FOUR), BASE),
             (1, 25),
         ),
         ("percent", percent(FOUR, BASE, KV33), (4, 33)),

@@ -4,3 +4,5 @@ pub mod PlainElements
 pub mod SmallValues
 pub mod Sound
 pub mod Adding
+pub mod InPhases
+pub mod GroupedElements

@@ -24,7 +24,7 @@ not_true : (a : Bool) → ¬ (a ≡ true) → a ≡ false
 not_true true h = absurd (h refl)
 not_true false h = refl
 
-not_zero : (l : Law) → IsPlainLaw (exact_law l) → is_zero_law l ≡ false
+pub not_zero : (l : Law) → IsPlainLaw (exact_law l) → is_zero_law l ≡ false
 not_zero (Series r k m x xc) h = not_true (is_zero_law (Series r k m x xc)) (λ e.
     let first = and_parts (is_zero r) (is_zero x && is_zero xc) e in
     let rest = and_parts (is_zero x) (is_zero xc) first.1 in
@@ -42,7 +42,7 @@ pub uncoupled : (nodes : ℕ) (b : ExactBranch) → IsPlainBranch nodes b → Is
 uncoupled nodes b h = uncoupled_by b.law b refl h.law h.group
 
 -- what follows for each built branch
-each_built : (P : ExactBranch → Type 0) (Q : Branch → Type 0) → ((b : Branch) → P (exact_branch b) → Q b) → (bs : List Branch) → AllByRecursion P (map exact_branch bs) → AllByRecursion Q bs
+pub each_built : (P : ExactBranch → Type 0) (Q : Branch → Type 0) → ((b : Branch) → P (exact_branch b) → Q b) → (bs : List Branch) → AllByRecursion P (map exact_branch bs) → AllByRecursion Q bs
 each_built P Q f [] h = tt
 each_built P Q f (b ∷ bs) h = (f b h.0, each_built P Q f bs h.1)
 

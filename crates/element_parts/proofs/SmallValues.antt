@@ -33,22 +33,22 @@ unfolding impedance_per_unit
 small_impedance z s v h k l =
     small_over (z *ℤ s) (unsigned_abs (v *ℤ v)) (omega (arith, size z s (10 ^ 13) (10 ^ 10) h (base_above s k).1)) (omega (arith, square_of_kv v l))
 
-pub small_share : (z s v : ℤ) (n : ℕ) → unsigned_abs z ≤ 10 ^ 12 → IsIn BASE_MVA s → IsIn BUS_KV v → n ≤ 128 → IsSmall (impedance_share z s v n)
+pub small_share : (z s v : ℤ) (n : ℕ) → unsigned_abs z ≤ 10 ^ 13 → IsIn BASE_MVA s → IsIn BUS_KV v → n ≤ 384 → IsSmall (impedance_share z s v n)
 unfolding impedance_share
 small_share z s v n h k l m =
-    small_over (z *ℤ s) (unsigned_abs (v *ℤ v) * n) (omega (arith, size z s (10 ^ 12) (10 ^ 10) h (base_above s k).1)) (omega (arith, mul-le-mul (square_of_kv v l) m))
+    small_over (z *ℤ s) (unsigned_abs (v *ℤ v) * n) (omega (arith, size z s (10 ^ 13) (10 ^ 10) h (base_above s k).1)) (omega (arith, mul-le-mul (square_of_kv v l) m))
 
-pub small_susceptance_share : (b s v : ℤ) (n : ℕ) → unsigned_abs b ≤ 10 ^ 12 → IsIn BASE_MVA s → IsIn BUS_KV v → n ≤ 128 → IsSmall (susceptance_share b s v n)
+pub small_susceptance_share : (b s v : ℤ) (n : ℕ) → unsigned_abs b ≤ 10 ^ 12 → IsIn BASE_MVA s → IsIn BUS_KV v → n ≤ 384 → IsSmall (susceptance_share b s v n)
 unfolding susceptance_share
 small_susceptance_share b s v n h k l m =
     let base : unsigned_abs s * 10 ^ 18 ≤ 10 ^ 28 = omega (arith, (base_above s k).1) in
     small_over (b *ℤ (v *ℤ v)) (unsigned_abs s * 10 ^ 18 * n) (omega (arith, size b (v *ℤ v) (10 ^ 12) 4000000000000000000 h (square_of_kv v l))) (omega (arith, mul-le-mul base m))
 
-pub small_rating : (q s : ℤ) → unsigned_abs q ≤ 10 ^ 12 → IsIn BASE_MVA s → IsSmall (impedance_of_rating q s)
+pub small_rating : (q s : ℤ) → unsigned_abs q ≤ 10 ^ 13 → IsIn BASE_MVA s → IsSmall (impedance_of_rating q s)
 unfolding impedance_of_rating
 small_rating q s h k = small_over s (unsigned_abs q) (omega (arith, (base_above s k).1)) (omega (arith, h))
 
-pub small_susceptance : (q s : ℤ) → unsigned_abs q ≤ 10 ^ 12 → IsIn BASE_MVA s → IsSmall (susceptance_of_rating q s)
+pub small_susceptance : (q s : ℤ) → unsigned_abs q ≤ 10 ^ 13 → IsIn BASE_MVA s → IsSmall (susceptance_of_rating q s)
 unfolding susceptance_of_rating
 small_susceptance q s h k = small_over q (unsigned_abs s) (omega (arith, h)) (omega (arith, (base_above s k).1))
 

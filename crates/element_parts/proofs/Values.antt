@@ -42,8 +42,8 @@ product_size (pos m) (negsuc n) h k = absurd (omega (arith, ints))
 product_size (negsuc m) b h k = absurd (omega (arith, ints))
 
 -- a number of at least 1, so many times
-pub times_parts : (a : ℤ) (n : ℕ) → pos 1 ≤ℤ a → 1 ≤ n → n ≤ 128 → unsigned_abs (a *ℤ pos n) ≤ unsigned_abs a * 128
-times_parts (pos m) n h k l = let most : m * n ≤ m * 128 = mul-le-mul_left m l in omega (arith, ints)
+pub times_parts : (a : ℤ) (n : ℕ) → pos 1 ≤ℤ a → 1 ≤ n → n ≤ 384 → unsigned_abs (a *ℤ pos n) ≤ unsigned_abs a * 384
+times_parts (pos m) n h k l = let most : m * n ≤ m * 384 = mul-le-mul_left m l in omega (arith, ints)
 times_parts (negsuc m) n h k l = absurd (omega (arith, ints))
 
 -- a base in MVA is at least 1 and at most 10^10 millionths

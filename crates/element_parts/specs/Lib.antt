@@ -4,3 +4,6 @@ pub mod Plain
 pub mod Expansion
 pub mod Adds
 pub mod Parts
+pub mod Phases
+pub mod Grouped
+pub mod Couplings

@@ -1,5 +1,5 @@
 -- Exact values in per unit. Each argument is the whole number of millionths of a decimal, in the unit that the comment names.
-use Rattle.std.specs.Prelude.{ℕ, ℤ, pos, ◌*◌, ◌^◌, ◌*ℤ◌, unsigned_abs}
+use Rattle.std.specs.Prelude.{ℕ, ℤ, pos, ◌*◌, ◌^◌, ◌*ℤ◌, ◌+ℤ◌, ◌-ℤ◌, unsigned_abs}
 use Rattle.exact_algebra.specs.Ratio.{Ratio, over}
 
 -- a value as it is written: d/10^6
@@ -9,6 +9,13 @@ as_written d = over d (10 ^ 6)
 -- an impedance of z ohms, for a base of s MVA and v kV: z·s/v²
 unfoldable pub impedance_per_unit : ℤ → ℤ → ℤ → Ratio
 impedance_per_unit z s v = over (z *ℤ s) (unsigned_abs (v *ℤ v))
+
+-- three coupled phases of z ohms in the positive and z0 ohms in the zero sequence, three times: a phase by itself, and two phases to one another
+abbrev pub self_ohms : ℤ → ℤ → ℤ
+self_ohms z z0 = z0 +ℤ pos 2 *ℤ z
+
+abbrev pub mutual_ohms : ℤ → ℤ → ℤ
+mutual_ohms z z0 = z0 -ℤ z
 
 -- one of n equal parts in series of an impedance of z ohms: z·s/(v²·n)
 unfoldable pub impedance_share : ℤ → ℤ → ℤ → ℕ → Ratio

@@ -5,6 +5,8 @@ ghost use Rattle.element_parts.specs.Adds.{Adds};
 ghost use Rattle.element_parts.specs.Expansion.{Expansion, open_circuit};
 ghost use Rattle.element_parts.specs.Parts.{exact_parts};
 ghost use Rattle.element_parts.specs.Plain.{ArePlain};
+ghost use Rattle.element_parts.specs.Grouped.{IsGroupedElement};
+ghost use Rattle.net_branch.specs.Exact.{exact_network};
 
 use net_branch::{AddFault, Branch, Network, append_element};
 use sqlite_items::Items;
@@ -42,4 +44,21 @@ pub fn add_plain(
         return Err(AddFault::NoMemory);
     };
     append_element(alloc, network, parts.inner, parts.branches)
+}
+
+/// Adds what was built of an element, groups of three among its branches; `NoMemory` where there was none to build it. `TooMany` exactly where
+/// the network would have more than `MAX_NODES` nodes or more than `MAX_BRANCHES` branches. A refusal leaves the network as it was.
+pub fn add_grouped(
+    alloc: Global,
+    network: &mut Network,
+    parts: Result<Parts, AllocError>,
+) -> Result<(), AddFault>
+    requires whole { IsWholeNetwork network.old }
+    requires grouped { IfOk parts (λ parts. IsGroupedElement (exact_network network.old) (exact_parts parts)) }
+    ensures { (expansion : Expansion) → IfOk parts (λ parts. exact_parts parts ≡ expansion) → Adds network.old network.new result expansion }
+{
+    let Ok(built) = parts else {
+        return Err(AddFault::NoMemory);
+    };
+    append_element(alloc, network, built.inner, built.branches)
 }

@@ -1,12 +1,13 @@
 // Values of elements in per unit, as exact fractions that are not reduced.
-ghost use Rattle.std.specs.Prelude.{◌≡◌, ◌≤◌, ◌<◌, ◌≤ℤ◌, ◌*ℤ◌, ◌*◌, ◌^◌, pos, length, unsigned_abs};
+ghost use Rattle.std.specs.Prelude.{◌≡◌, ◌≤◌, ◌<◌, ◌≤ℤ◌, ◌*ℤ◌, ◌-ℤ◌, ◌*◌, ◌^◌, pos, length, unsigned_abs};
 ghost use Rattle.exact_algebra.specs.Ratio.{whole};
 ghost use Rattle.exact_fraction.specs.Fraction.{ratio_of};
 ghost use Rattle.study_model.specs.Range.{IsIn};
 ghost use Rattle.study_model.specs.declared.range.TheConstants.Range.{BASE_MVA, BUS_KV};
 ghost use Rattle.study_model.specs.Voltages.{kv_of};
-ghost use Rattle.element_parts.specs.PerUnit.{as_written, impedance_per_unit, impedance_share, susceptance_share, impedance_of_rating, susceptance_of_rating, percent_per_unit, inverse_ratio};
+ghost use Rattle.element_parts.specs.PerUnit.{as_written, self_ohms, mutual_ohms, impedance_per_unit, impedance_share, susceptance_share, impedance_of_rating, susceptance_of_rating, percent_per_unit, inverse_ratio};
 
+use crate::power::Power;
 use exact_fraction::Fraction;
 use fixed_decimal::Decimal;
 use study_model::Study;
@@ -78,13 +79,26 @@ pub fn scaled(d: Decimal, number: i128) -> i128
     times(d, number)
 }
 
-/// A number of at least 1 and at most 2^94 times a count of at most 128.
+/// A power above 0 times a number above 0.
+#[tactic(auto, using(crate::proofs::Values::product_above, crate::proofs::Values::product_size))]
+pub fn scaled_power(power: Power, number: i128) -> i128
+    requires positive { pos 1 ≤ℤ power }
+    requires number { pos 1 ≤ℤ number }
+    requires small { unsigned_abs number ≤ 4000000000000000000 }
+    ensures value { unsigned_abs result ≡ unsigned_abs power * unsigned_abs number }
+    ensures bound { unsigned_abs result < 2 ^ 105 }
+    ensures positive { pos 1 ≤ℤ result }
+{
+    times_number(power.millionths, number)
+}
+
+/// A number of at least 1 and at most 2^94 times a count of at most 384.
 #[tactic(auto, using(crate::proofs::Values::times_parts))]
 fn times_parts(number: i128, parts: u32) -> i128
     requires positive { pos 1 ≤ℤ number }
     requires small { unsigned_abs number ≤ 2 ^ 94 }
     requires some { 1 ≤ parts }
-    requires few { parts ≤ 128 }
+    requires few { parts ≤ 384 }
     ensures value { result ≡ number *ℤ pos parts }
     ensures bound { unsigned_abs result < 2 ^ 105 }
 {
@@ -97,7 +111,7 @@ fn in_parts(number: i128, parts: u32) -> i128
     requires positive { pos 1 ≤ℤ number }
     requires small { unsigned_abs number ≤ 2 ^ 94 }
     requires some { 1 ≤ parts }
-    requires few { parts ≤ 128 }
+    requires few { parts ≤ 384 }
     ensures value { unsigned_abs result ≡ unsigned_abs number * parts }
     ensures bound { unsigned_abs result < 2 ^ 105 }
     ensures positive { pos 1 ≤ℤ result }
@@ -157,10 +171,63 @@ pub fn impedance(z: Decimal, mva: Decimal, kv: Decimal) -> Fraction
 pub fn impedance_share(z: Decimal, mva: Decimal, kv: Decimal, parts: u32) -> Fraction
     requires kv { pos 1 ≤ℤ kv }
     requires some { 1 ≤ parts }
-    requires few { parts ≤ 128 }
+    requires few { parts ≤ 384 }
     ensures { ratio_of result ≡ impedance_share z mva kv parts }
 {
     small(product(z, mva), in_parts(square(kv), parts))
+}
+
+/// z0 + 2·z.
+fn self_ohms(z: Decimal, z0: Decimal) -> i64
+    ensures value { result ≡ self_ohms z z0 }
+    ensures size { unsigned_abs result ≤ 3000000000000 }
+{
+    z0.millionths + 2 * z.millionths
+}
+
+/// z0 - z.
+fn mutual_ohms(z: Decimal, z0: Decimal) -> i64
+    ensures value { result ≡ mutual_ohms z z0 }
+    ensures size { unsigned_abs result ≤ 3000000000000 }
+{
+    z0.millionths - z.millionths
+}
+
+/// A number of size at most 3·10^12, as an impedance of three coupled phases or a power is, times one of at most 4·10^18.
+fn times_number(d: i64, number: i128) -> i128
+    requires size { unsigned_abs d ≤ 3000000000000 }
+    requires number { unsigned_abs number ≤ 4000000000000000000 }
+    ensures value { result ≡ d *ℤ number }
+    ensures bound { unsigned_abs result < 2 ^ 105 }
+{
+    i128::from(d) * number
+}
+
+/// One of so many equal parts in series of the impedance of a phase by itself, of `z` and `z0` ohms in the two sequences at a bus of `kv`, in
+/// per unit: (z0 + 2·z)·s/(3·v²·n).
+#[tactic(auto, unfolding(crate::specs::PerUnit::impedance_share))]
+pub fn self_share(z: Decimal, z0: Decimal, mva: Decimal, kv: Decimal, parts: u32) -> Fraction
+    requires kv { pos 1 ≤ℤ kv }
+    requires some { 1 ≤ parts }
+    requires few { parts ≤ 64 }
+    ensures { ratio_of result ≡ impedance_share (self_ohms z z0) mva kv (3 * parts) }
+{
+    let ohms = self_ohms(z, z0);
+    let base = i128::from(mva.millionths);
+    small(times_number(ohms, base), in_parts(square(kv), 3 * parts))
+}
+
+/// One of so many equal parts in series of the impedance between two phases: (z0 - z)·s/(3·v²·n).
+#[tactic(auto, unfolding(crate::specs::PerUnit::impedance_share))]
+pub fn mutual_share(z: Decimal, z0: Decimal, mva: Decimal, kv: Decimal, parts: u32) -> Fraction
+    requires kv { pos 1 ≤ℤ kv }
+    requires some { 1 ≤ parts }
+    requires few { parts ≤ 64 }
+    ensures { ratio_of result ≡ impedance_share (mutual_ohms z z0) mva kv (3 * parts) }
+{
+    let ohms = mutual_ohms(z, z0);
+    let base = i128::from(mva.millionths);
+    small(times_number(ohms, base), in_parts(square(kv), 3 * parts))
 }
 
 /// Three times a decimal, times another.
@@ -182,7 +249,7 @@ pub fn triple_impedance(z: Decimal, mva: Decimal, kv: Decimal) -> Fraction
 
 /// The impedance of a rating in MW or MVAr, in per unit: s/q.
 #[tactic(auto, unfolding(crate::specs::PerUnit::impedance_of_rating))]
-pub fn impedance_of_rating(rating: Decimal, mva: Decimal) -> Fraction
+pub fn impedance_of_rating(rating: Power, mva: Decimal) -> Fraction
     requires { pos 1 ≤ℤ rating }
     ensures { ratio_of result ≡ impedance_of_rating rating mva }
 {
@@ -191,7 +258,7 @@ pub fn impedance_of_rating(rating: Decimal, mva: Decimal) -> Fraction
 
 /// The susceptance of a rating in MVAr, in per unit: q/s.
 #[tactic(auto, unfolding(crate::specs::PerUnit::susceptance_of_rating))]
-pub fn susceptance_of_rating(rating: Decimal, mva: Decimal) -> Fraction
+pub fn susceptance_of_rating(rating: Power, mva: Decimal) -> Fraction
     requires { pos 1 ≤ℤ mva }
     ensures { ratio_of result ≡ susceptance_of_rating rating mva }
 {
@@ -204,11 +271,34 @@ pub fn susceptance_share(b: Decimal, mva: Decimal, kv: Decimal, parts: u32) -> F
     requires mva { IsIn BASE_MVA mva }
     requires kv { IsIn BUS_KV kv }
     requires some { 1 ≤ parts }
-    requires few { parts ≤ 128 }
+    requires few { parts ≤ 384 }
     ensures { ratio_of result ≡ susceptance_share b mva kv parts }
 {
     small(
         times(b, kv_square(kv)),
+        in_parts(base_of_siemens(mva), parts),
+    )
+}
+
+/// b - b0.
+fn difference(b: Decimal, b0: Decimal) -> i64
+    ensures value { result ≡ b -ℤ b0 }
+    ensures size { unsigned_abs result ≤ 3000000000000 }
+{
+    b.millionths - b0.millionths
+}
+
+/// One of so many equal parts side by side of a susceptance of b - b0 microsiemens at a bus of `kv`, in per unit: (b - b0)·v²/(s·10^18·n).
+#[tactic(auto, unfolding(crate::specs::PerUnit::susceptance_share))]
+pub fn difference_share(b: Decimal, b0: Decimal, mva: Decimal, kv: Decimal, parts: u32) -> Fraction
+    requires mva { IsIn BASE_MVA mva }
+    requires kv { IsIn BUS_KV kv }
+    requires some { 1 ≤ parts }
+    requires few { parts ≤ 384 }
+    ensures { ratio_of result ≡ susceptance_share (b -ℤ b0) mva kv parts }
+{
+    small(
+        times_number(difference(b, b0), kv_square(kv)),
         in_parts(base_of_siemens(mva), parts),
     )
 }

@@ -1,2 +1,4 @@
 pub mod Cascade
 pub mod Sound
+pub mod PhaseCascade
+pub mod PhaseSound

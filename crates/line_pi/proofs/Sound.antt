@@ -44,13 +44,13 @@ series : (study : Study) (e : Line) (nodes : ℕ) (r x : ℤ) → IsAddable stud
 unfolding impedance_share
 series study e nodes r x a h k n =
     let v = kv_of study.buses e.from in
-    let few : e.sections ≤ 128 = omega (arith, a.line.sections.1) in
+    let few : e.sections ≤ 384 = omega (arith, a.line.sections.1) in
     sound_skin _ _ e.skin_k e.skin_m a.line.skin_k a.line.skin_m (λ z. multiples study.mva r x (base_above study.mva a.base).0 n (z.0, z.1))
     (small_share r study.mva v e.sections (omega (arith, ints, h.0, h.1)) a.base a.kv few) (small_share x study.mva v e.sections (omega (arith, ints, k.0, k.1)) a.base a.kv few)
 
-shunt : (b s v : ℤ) (n : ℕ) → IsIn BUS_KV v → int_lt (pos 0) b ≡ true → IsPlainLaw (Shunt (susceptance_share b s v n))
+pub shunt_plain : (b s v : ℤ) (n : ℕ) → IsIn BUS_KV v → int_lt (pos 0) b ≡ true → IsPlainLaw (Shunt (susceptance_share b s v n))
 unfolding susceptance_share
-shunt b s v n h t =
+shunt_plain b s v n h t =
     let above : pos 1 ≤ℤ v = omega (arith, ints, h.0) in
     product_not_nought b _ (grind (arith, ints)) (product_above v v above above)
 
@@ -58,7 +58,7 @@ end_sound : (study : Study) (e : Line) (nodes : ℕ) (b : ℤ) → IsAddable stu
 end_sound study e nodes b a h =
     let v = kv_of study.buses e.from in
     sound_where (int_lt (pos 0) b) _
-    (λ t. record { plain = shunt b study.mva v (2 * e.sections) a.kv t; small = small_susceptance_share b study.mva v (2 * e.sections) (omega (arith, ints, h.0, h.1)) a.base a.kv (omega (arith, a.line.sections.1)) })
+    (λ t. record { plain = shunt_plain b study.mva v (2 * e.sections) a.kv t; small = small_susceptance_share b study.mva v (2 * e.sections) (omega (arith, ints, h.0, h.1)) a.base a.kv (omega (arith, a.line.sections.1)) })
 
 of_values : (study : Study) (e : Line) (owner next : ℕ) (r x b : ℤ) → IsAddable study e next → IsIn ORDINARY r → IsIn ORDINARY x → AreNotBothZero r x → IsIn ORDINARY b → IsSound next owner (line_of study e owner next r x b)
 of_values study e owner next r x b a h k n l =

@@ -1,4 +1,5 @@
 pub mod LawLists
 pub mod TunedValues
+pub mod Ports
 pub mod Sound
 pub mod Filters

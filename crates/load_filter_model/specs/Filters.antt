@@ -1,5 +1,5 @@
 -- Filters as branches.
-use Rattle.std.specs.Prelude.{ℕ, ◌*◌, ◌^◌, ℤ, pos, ◌*ℤ◌, ◌-ℤ◌, unsigned_abs, List, [], ◌∷◌, map, if◌then◌else◌}
+use Rattle.std.specs.Prelude.{ℕ, ◌*◌, ◌^◌, ℤ, pos, ◌*ℤ◌, ◌-ℤ◌, unsigned_abs, List, [], ◌∷◌, Some, None, if◌then◌else◌}
 use Rattle.exact_algebra.specs.Ratio.{Ratio, whole, over}
 use Rattle.network_theory.specs.Branch.{Law, Series}
 use Rattle.study_model.specs.declared.words.Sequence.{Sequence}
@@ -8,8 +8,10 @@ use Rattle.study_model.specs.declared.words.FilterKind.TheVariants.{Single, High
 use Rattle.study_model.specs.declared.records.Filter.{Filter}
 use Rattle.study_model.specs.declared.records.Study.{Study}
 use Rattle.element_parts.specs.PerUnit.{impedance_of_rating}
-use Rattle.element_parts.specs.Expansion.{Expansion, to_ground, between, grounded_at, series, open_circuit}
+use Rattle.element_parts.specs.Expansion.{Expansion, series, open_circuit}
+use Rattle.element_parts.specs.Phases.{power_in}
 use Rattle.load_filter_model.specs.Presence.{is_present}
+use Rattle.load_filter_model.specs.Ports.{Port, at_node, at_phases}
 
 -- A filter of q MVAr is tuned to the order n and has the quality w. Its capacitor has the reactance xc = s/q.
 -- the reactance that is tuned with it, xc/n²: s·10^12/(q·n²)
@@ -40,11 +42,6 @@ ctype_resistance q n w s = over (w *ℤ n *ℤ s) (unsigned_abs q * unsigned_abs
 abbrev pub resonant : Ratio → Ratio → Ratio → Law
 resonant r x xc = Series r (whole (pos 0)) (whole (pos 1)) x xc
 
--- a capacitor between the bus and an inner node, and branches of these laws from that node to ground
-abbrev pub behind_capacitor : ℕ → ℕ → Ratio → List Law → ℕ → Expansion
-behind_capacitor bus next xc laws owner =
-    record { inner = 1; branches = between bus next (resonant (whole (pos 0)) (whole (pos 0)) xc) owner ∷ map (λ law. to_ground next law owner) laws }
-
 -- single: Series r, x, xc to ground
 abbrev pub single_laws : ℤ → ℤ → ℤ → ℤ → List Law
 single_laws q n w s = resonant (tuned_resistance q n w s) (tuned_reactance q n s) (impedance_of_rating q s) ∷ []
@@ -57,12 +54,20 @@ highpass_laws q n w s = series (highpass_resistance q n w s) (whole (pos 0)) ∷
 abbrev pub ctype_laws : ℤ → ℤ → ℤ → ℤ → List Law
 ctype_laws q n w s = series (ctype_resistance q n w s) (whole (pos 0)) ∷ resonant (whole (pos 0)) (ctype_reactance q n s) (ctype_reactance q n s) ∷ []
 
--- a filter by its kind, for a base of s MVA
-abbrev pub filter_of : ℤ → Filter → ℕ → ℕ → FilterKind → Expansion
-filter_of s e owner next Single = grounded_at e.bus (single_laws e.q e.order e.quality s) owner
-filter_of s e owner next HighPass = behind_capacitor e.bus next (impedance_of_rating e.q s) (highpass_laws e.q e.order e.quality s) owner
-filter_of s e owner next CType = behind_capacitor e.bus next (impedance_of_rating e.q s) (ctype_laws e.q e.order e.quality s) owner
+-- the capacitor before an inner node
+abbrev pub capacitor : ℤ → ℤ → Law
+capacitor q s = resonant (whole (pos 0)) (whole (pos 0)) (impedance_of_rating q s)
 
--- in the zero network the same where grounded, else open
+-- a filter of q MVAr by its kind, for a base of s MVA
+abbrev pub filter_port : ℤ → Filter → ℤ → FilterKind → Port
+filter_port s e q Single = record { capacitor = None; laws = single_laws q e.order e.quality s }
+filter_port s e q HighPass = record { capacitor = Some (capacitor q s); laws = highpass_laws q e.order e.quality s }
+filter_port s e q CType = record { capacitor = Some (capacitor q s); laws = ctype_laws q e.order e.quality s }
+
+-- in the positive network to ground, in the zero network the same where grounded, else open
 unfoldable pub filter_expansion : Study → Filter → ℕ → Sequence → ℕ → Expansion
-filter_expansion study e owner sequence next = if is_present sequence e.grounded e.phase then filter_of study.mva e owner next e.kind else open_circuit
+filter_expansion study e owner sequence next = if is_present sequence e.grounded e.phase then at_node (filter_port study.mva e e.q e.kind) e.bus next owner else open_circuit
+
+-- in the network of three phases
+unfoldable pub filter_phases : Study → Filter → ℕ → ℕ → Expansion
+filter_phases study e owner next = at_phases (filter_port study.mva e (power_in e.phase e.q) e.kind) e.grounded e.phase e.bus next owner

@@ -1,16 +1,19 @@
 -- Loads as branches, of p MW and q MVAr, or of r and x ohms.
-use Rattle.std.specs.Prelude.{ℕ, ◌*◌, ℤ, pos, ◌*ℤ◌, ◌-ℤ◌, unsigned_abs, int_lt, List, [], ◌∷◌, ◌++◌, Option, Some, if◌then◌else◌}
+use Rattle.std.specs.Prelude.{ℕ, ◌*◌, ℤ, pos, ◌*ℤ◌, ◌-ℤ◌, unsigned_abs, int_lt, List, [], ◌∷◌, ◌++◌, Option, Some, None, option_map, if◌then◌else◌}
 use Rattle.exact_algebra.specs.Ratio.{Ratio, whole, over}
 use Rattle.network_theory.specs.Branch.{Law}
 use Rattle.study_model.specs.declared.words.Sequence.{Sequence}
 use Rattle.study_model.specs.declared.words.LoadModel.{LoadModel}
 use Rattle.study_model.specs.declared.words.LoadModel.TheVariants as load_model
+use Rattle.study_model.specs.declared.words.Phase.{Phase}
 use Rattle.study_model.specs.declared.records.Load.{Load}
 use Rattle.study_model.specs.declared.records.Study.{Study}
 use Rattle.study_model.specs.Voltages.{kv_of}
 use Rattle.element_parts.specs.PerUnit.{impedance_per_unit, impedance_of_rating}
 use Rattle.element_parts.specs.Expansion.{Expansion, grounded_at, series, law_where}
+use Rattle.element_parts.specs.Phases.{power_in}
 use Rattle.load_filter_model.specs.Presence.{is_present}
+use Rattle.load_filter_model.specs.Ports.{Port, at_phases}
 
 -- the reactance in series with the resistance of a CIGRE load of p MW: 73·s/(1000·p)
 unfoldable pub cigre_series_reactance : ℤ → ℤ → Ratio
@@ -47,3 +50,11 @@ load_laws s v _ _ _ _ _ = []
 unfoldable pub load_expansion : Study → Load → ℕ → Sequence → Expansion
 load_expansion study e owner sequence =
     grounded_at e.bus (if is_present sequence e.grounded e.phase then load_laws study.mva (kv_of study.buses e.bus) e.model e.p e.q e.r e.x else []) owner
+
+-- the same at a node, where its powers are as written or three times that
+abbrev pub load_port : Study → Load → Option Phase → Port
+load_port study e phase = record { capacitor = None; laws = load_laws study.mva (kv_of study.buses e.bus) e.model (option_map (power_in phase) e.p) (option_map (power_in phase) e.q) e.r e.x }
+
+-- in the network of three phases
+unfoldable pub load_phases : Study → Load → ℕ → ℕ → Expansion
+load_phases study e owner next = at_phases (load_port study e e.phase) e.grounded e.phase e.bus next owner

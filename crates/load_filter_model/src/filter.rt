@@ -1,5 +1,5 @@
 // Filters. The rating is the capacitor's, from which the order and the quality give the other values.
-ghost use Rattle.std.specs.Prelude.{◌≡◌, [], ◌∷◌, length, IfOk};
+ghost use Rattle.std.specs.Prelude.{◌≡◌, ◌≤◌, ◌*◌, ◌≤ℤ◌, pos, [], ◌∷◌, length, Some, IfOk};
 ghost use Rattle.exact_fraction.specs.Fraction.{ratio_of};
 ghost use Rattle.study_model.specs.Lawful.{IsLawful, IsLawfulFilter};
 ghost use Rattle.study_model.specs.declared.words.FilterKind.TheVariants.{Single, HighPass, CType};
@@ -7,16 +7,23 @@ ghost use Rattle.net_branch.specs.Exact.{exact_law};
 ghost use Rattle.net_branch.specs.Whole.{IsWholeNetwork};
 ghost use Rattle.element_parts.specs.Adds.{Adds};
 ghost use Rattle.element_parts.specs.Parts.{exact_parts};
-ghost use Rattle.load_filter_model.specs.Filters.{resonant, behind_capacitor, filter_of, filter_expansion};
+ghost use Rattle.load_filter_model.specs.Filters.{resonant, capacitor, filter_port, filter_expansion, filter_phases};
+ghost use Rattle.load_filter_model.specs.ExactPorts.{exact_port};
+ghost use Rattle.study_model.specs.Range.{IsIn};
+ghost use Rattle.study_model.specs.declared.range.TheConstants.Range.{TUNED_ORDER, QUALITY};
+ghost use Rattle.study_model.specs.declared.limits.TheConstants.{MAX_BUSES};
+ghost use Rattle.net_branch.specs.declared.limits.TheConstants.{MAX_NODES};
 
-use crate::grounded::{grounded_parts, is_present};
+use crate::port::{Port, at_node, at_phases, single};
+use crate::presence::is_present;
 use crate::tuned::{
     ctype_reactance, ctype_resistance, highpass_resistance, tuned_reactance, tuned_resistance,
 };
 use element_parts::{
-    Parts, add_plain, between, impedance_of_rating, open_circuit, series, to_ground, zero,
+    Parts, Power, add_plain, impedance_of_rating, open_circuit, power_in, series, zero,
 };
 use exact_fraction::Fraction;
+use fixed_decimal::Decimal;
 use net_branch::{AddFault, Law, Network};
 use sqlite_items::Items;
 use std::alloc::{AllocError, Global};
@@ -36,81 +43,86 @@ fn resonant(r: Fraction, x: Fraction, xc: Fraction) -> Law
     }
 }
 
-/// A single tuned filter: a resistance, a reactance and a capacitor in series from its bus to ground.
-fn single_parts(
-    alloc: Global,
-    study: &Study,
-    filter: &Filter,
-    owner: u32,
-) -> Result<Parts, AllocError>
-    requires { IsLawfulFilter study.now.model study.now.buses filter.now }
-    ensures { IfOk result (λ parts. exact_parts parts ≡ filter_of study.now.mva filter.now owner 0 Single) }
+/// The capacitor of a filter of rating `q` before its inner node.
+fn capacitor(q: Power, mva: Decimal) -> Law
+    requires { pos 1 ≤ℤ q }
+    ensures { exact_law result ≡ capacitor q mva }
 {
-    let law = resonant(
-        tuned_resistance(filter.q, filter.order, filter.quality, study.mva),
-        tuned_reactance(filter.q, filter.order, study.mva),
-        impedance_of_rating(filter.q, study.mva),
-    );
-    grounded_parts(alloc, filter.bus, &[law], owner)
+    resonant(zero(), zero(), impedance_of_rating(q, mva))
 }
 
-/// A filter with an inner node: its capacitor from its bus to that node, and branches of two laws from there to ground.
+/// A single tuned filter: a resistance, a reactance and a capacitor in series.
+fn single_port(alloc: Global, mva: Decimal, filter: &Filter, q: Power) -> Result<Port, AllocError>
+    requires q { pos 1 ≤ℤ q }
+    requires order { IsIn TUNED_ORDER filter.now.order }
+    requires quality { IsIn QUALITY filter.now.quality }
+    ensures { IfOk result (λ port. exact_port port ≡ filter_port mva filter.now q Single) }
+{
+    let law = resonant(
+        tuned_resistance(q, filter.order, filter.quality, mva),
+        tuned_reactance(q, filter.order, mva),
+        impedance_of_rating(q, mva),
+    );
+    single(alloc, law)
+}
+
+/// A filter with an inner node: its capacitor, and branches of two laws behind it.
 fn behind_capacitor(
     alloc: Global,
-    bus: u32,
-    next: u32,
-    xc: Fraction,
+    capacitor: Law,
     resistor: Law,
     reactor: Law,
-    owner: u32,
-) -> Result<Parts, AllocError>
-    ensures { IfOk result (λ parts. exact_parts parts ≡ behind_capacitor bus next (ratio_of xc) (exact_law resistor ∷ exact_law reactor ∷ []) owner) }
+) -> Result<Port, AllocError>
+    ensures capacitor { IfOk result (λ port. (exact_port port).capacitor ≡ Some (exact_law capacitor)) }
+    ensures laws { IfOk result (λ port. (exact_port port).laws ≡ exact_law resistor ∷ exact_law reactor ∷ []) }
 {
-    let capacitor = resonant(zero(), zero(), xc);
-    let mut branches = Items::new(alloc);
-    branches.push(between(alloc, bus, next, capacitor, owner)?)?;
-    branches.push(to_ground(alloc, next, resistor, owner)?)?;
-    branches.push(to_ground(alloc, next, reactor, owner)?)?;
-    Ok(Parts { inner: 1, branches })
+    Ok(Port {
+        capacitor: Some(capacitor),
+        laws: Items::from_slice(alloc, &[resistor, reactor])?,
+    })
 }
 
 /// A high-pass filter: behind its capacitor a resistance and a reactance side by side.
-fn highpass_parts(
-    alloc: Global,
-    study: &Study,
-    filter: &Filter,
-    owner: u32,
-    next: u32,
-) -> Result<Parts, AllocError>
-    requires { IsLawfulFilter study.now.model study.now.buses filter.now }
-    ensures { IfOk result (λ parts. exact_parts parts ≡ filter_of study.now.mva filter.now owner next HighPass) }
+fn highpass_port(alloc: Global, mva: Decimal, filter: &Filter, q: Power) -> Result<Port, AllocError>
+    requires q { pos 1 ≤ℤ q }
+    requires order { IsIn TUNED_ORDER filter.now.order }
+    requires quality { IsIn QUALITY filter.now.quality }
+    ensures { IfOk result (λ port. exact_port port ≡ filter_port mva filter.now q HighPass) }
 {
-    let xc = impedance_of_rating(filter.q, study.mva);
-    let r = highpass_resistance(filter.q, filter.order, filter.quality, study.mva);
-    let x = tuned_reactance(filter.q, filter.order, study.mva);
+    let r = highpass_resistance(q, filter.order, filter.quality, mva);
+    let x = tuned_reactance(q, filter.order, mva);
     let resistor = series(r, zero());
     let reactor = series(zero(), x);
-    behind_capacitor(alloc, filter.bus, next, xc, resistor, reactor, owner)
+    behind_capacitor(alloc, capacitor(q, mva), resistor, reactor)
 }
 
 /// A C-type filter: behind its capacitor a resistance, and beside it a reactance and a second capacitor that are tuned to the
 /// fundamental.
-fn ctype_parts(
-    alloc: Global,
-    study: &Study,
-    filter: &Filter,
-    owner: u32,
-    next: u32,
-) -> Result<Parts, AllocError>
-    requires { IsLawfulFilter study.now.model study.now.buses filter.now }
-    ensures { IfOk result (λ parts. exact_parts parts ≡ filter_of study.now.mva filter.now owner next CType) }
+fn ctype_port(alloc: Global, mva: Decimal, filter: &Filter, q: Power) -> Result<Port, AllocError>
+    requires q { pos 1 ≤ℤ q }
+    requires order { IsIn TUNED_ORDER filter.now.order }
+    requires quality { IsIn QUALITY filter.now.quality }
+    ensures { IfOk result (λ port. exact_port port ≡ filter_port mva filter.now q CType) }
 {
-    let xc = impedance_of_rating(filter.q, study.mva);
-    let r = ctype_resistance(filter.q, filter.order, filter.quality, study.mva);
-    let x = ctype_reactance(filter.q, filter.order, study.mva);
+    let r = ctype_resistance(q, filter.order, filter.quality, mva);
+    let x = ctype_reactance(q, filter.order, mva);
     let resistor = series(r, zero());
     let reactor = resonant(zero(), x, x);
-    behind_capacitor(alloc, filter.bus, next, xc, resistor, reactor, owner)
+    behind_capacitor(alloc, capacitor(q, mva), resistor, reactor)
+}
+
+/// A filter of rating `q` at a node, by its kind.
+fn filter_port(alloc: Global, mva: Decimal, filter: &Filter, q: Power) -> Result<Port, AllocError>
+    requires q { pos 1 ≤ℤ q }
+    requires order { IsIn TUNED_ORDER filter.now.order }
+    requires quality { IsIn QUALITY filter.now.quality }
+    ensures { IfOk result (λ port. exact_port port ≡ filter_port mva filter.now q filter.now.kind) }
+{
+    match filter.kind {
+        FilterKind::Single => single_port(alloc, mva, filter, q),
+        FilterKind::HighPass => highpass_port(alloc, mva, filter, q),
+        FilterKind::CType => ctype_port(alloc, mva, filter, q),
+    }
 }
 
 /// What a filter adds to a network, nothing where it is open; `next` is the number of its inner node, where it has one.
@@ -129,11 +141,8 @@ fn filter_parts(
     if !is_present(sequence, filter.grounded, filter.phase) {
         return Ok(open_circuit(alloc));
     }
-    match filter.kind {
-        FilterKind::Single => single_parts(alloc, study, filter, owner),
-        FilterKind::HighPass => highpass_parts(alloc, study, filter, owner, next),
-        FilterKind::CType => ctype_parts(alloc, study, filter, owner, next),
-    }
+    let port = filter_port(alloc, study.mva, filter, power_in(None, filter.q))?;
+    at_node(alloc, &port, filter.bus, next, owner)
 }
 
 /// Adds a filter: a single tuned filter is a resistance, a reactance and a capacitor in series from its bus to ground; a high-pass filter
@@ -156,5 +165,53 @@ pub fn add_filter(
     ensures { Adds network.old network.new result (filter_expansion study.now filter.now owner sequence network.old.nodes) }
 {
     let parts = filter_parts(alloc, study, filter, owner, sequence, network.nodes);
+    add_plain(alloc, network, parts)
+}
+
+/// What a filter adds to the network of three phases. `next` is the number of its first inner node, where it has one.
+#[tactic(auto, unfolding(crate::specs::Filters::filter_phases))]
+fn phase_parts(
+    alloc: Global,
+    study: &Study,
+    filter: &Filter,
+    owner: u32,
+    next: u32,
+) -> Result<Parts, AllocError>
+    requires filter { IsLawfulFilter study.now.model study.now.buses filter.now }
+    requires few { length study.now.buses ≤ MAX_BUSES }
+    requires next { next ≤ MAX_NODES }
+    ensures { IfOk result (λ parts. exact_parts parts ≡ filter_phases study.now filter.now owner next) }
+{
+    let q = power_in(filter.phase, filter.q);
+    let port = filter_port(alloc, study.mva, filter, q)?;
+    at_phases(
+        alloc,
+        &port,
+        filter.grounded,
+        filter.phase,
+        filter.bus,
+        next,
+        owner,
+    )
+}
+
+/// Adds a filter to the network of three phases: the branches of its kind in each phase, to ground where it is grounded, else to one neutral,
+/// an inner node before those behind the capacitors; with a phase those of three times its rating in that phase alone, to ground. `TooMany`
+/// exactly where the network would have more than `MAX_NODES` nodes or more than `MAX_BRANCHES` branches. A refusal leaves the network as it
+/// was. (Arrillaga and Watson, Power System Harmonics; a filter's rating is its capacitor's.)
+pub fn add_filter_phases(
+    alloc: Global,
+    network: &mut Network,
+    study: &Study,
+    filter: &Filter,
+    owner: u32,
+) -> Result<(), AddFault>
+    requires study { IsLawful study.now }
+    requires filter { IsLawfulFilter study.now.model study.now.buses filter.now }
+    requires buses { network.old.buses ≡ 3 * length study.now.buses }
+    requires whole { IsWholeNetwork network.old }
+    ensures { Adds network.old network.new result (filter_phases study.now filter.now owner network.old.nodes) }
+{
+    let parts = phase_parts(alloc, study, filter, owner, network.nodes);
     add_plain(alloc, network, parts)
 }

@@ -5,7 +5,7 @@ ghost use Rattle.study_model.specs.Range.{IsIn};
 ghost use Rattle.study_model.specs.declared.range.TheConstants.Range.{TUNED_ORDER, QUALITY};
 ghost use Rattle.load_filter_model.specs.Filters.{tuned_reactance, tuned_resistance, highpass_resistance, above_fundamental, ctype_reactance, ctype_resistance};
 
-use element_parts::{product, scaled, small, times};
+use element_parts::{Power, product, scaled_power, small, times};
 use exact_fraction::Fraction;
 use fixed_decimal::Decimal;
 
@@ -47,17 +47,17 @@ fn order_quality(order: Decimal, quality: Decimal) -> i128
 
 /// The reactance that is tuned with a filter's capacitor: s/(q·n²).
 #[tactic(auto, unfolding(crate::specs::Filters::tuned_reactance))]
-pub fn tuned_reactance(rating: Decimal, order: Decimal, mva: Decimal) -> Fraction
+pub fn tuned_reactance(rating: Power, order: Decimal, mva: Decimal) -> Fraction
     requires rating { pos 1 ≤ℤ rating }
     requires order { IsIn TUNED_ORDER order }
     ensures { ratio_of result ≡ tuned_reactance rating order mva }
 {
-    small(times(mva, ONE), scaled(rating, square(order)))
+    small(times(mva, ONE), scaled_power(rating, square(order)))
 }
 
 /// The resistance of a single tuned filter: s/(q·n·w).
 #[tactic(auto, unfolding(crate::specs::Filters::tuned_resistance))]
-pub fn tuned_resistance(rating: Decimal, order: Decimal, quality: Decimal, mva: Decimal) -> Fraction
+pub fn tuned_resistance(rating: Power, order: Decimal, quality: Decimal, mva: Decimal) -> Fraction
     requires rating { pos 1 ≤ℤ rating }
     requires order { IsIn TUNED_ORDER order }
     requires quality { IsIn QUALITY quality }
@@ -65,26 +65,34 @@ pub fn tuned_resistance(rating: Decimal, order: Decimal, quality: Decimal, mva: 
 {
     small(
         times(mva, ONE),
-        scaled(rating, order_quality(order, quality)),
+        scaled_power(rating, order_quality(order, quality)),
     )
 }
 
 /// A rating times an order, in units of 10^-12.
+fn rating_product(rating: Power, order: Decimal) -> i128
+    ensures value { result ≡ rating *ℤ order }
+    ensures bound { unsigned_abs result < 2 ^ 105 }
+{
+    i128::from(rating.millionths) * i128::from(order.millionths)
+}
+
+/// The same, as a number of at least 1.
 #[tactic(auto, using(element_parts::proofs::Values::product_above))]
-fn rating_order(rating: Decimal, order: Decimal) -> i128
+fn rating_order(rating: Power, order: Decimal) -> i128
     requires rating { pos 1 ≤ℤ rating }
     requires order { IsIn TUNED_ORDER order }
     ensures value { result ≡ rating *ℤ order }
-    ensures bound { unsigned_abs result < 2 ^ 80 }
+    ensures bound { unsigned_abs result < 2 ^ 105 }
     ensures positive { pos 1 ≤ℤ result }
 {
-    product(rating, order)
+    rating_product(rating, order)
 }
 
 /// The resistance of a high-pass filter: w·s/(q·n).
 #[tactic(auto, unfolding(crate::specs::Filters::highpass_resistance))]
 pub fn highpass_resistance(
-    rating: Decimal,
+    rating: Power,
     order: Decimal,
     quality: Decimal,
     mva: Decimal,
@@ -98,12 +106,15 @@ pub fn highpass_resistance(
 
 /// The reactance of a C-type filter: s/(q·(n² - 1)).
 #[tactic(auto, unfolding(crate::specs::Filters::ctype_reactance))]
-pub fn ctype_reactance(rating: Decimal, order: Decimal, mva: Decimal) -> Fraction
+pub fn ctype_reactance(rating: Power, order: Decimal, mva: Decimal) -> Fraction
     requires rating { pos 1 ≤ℤ rating }
     requires order { IsIn TUNED_ORDER order }
     ensures { ratio_of result ≡ ctype_reactance rating order mva }
 {
-    small(times(mva, ONE), scaled(rating, above_fundamental(order)))
+    small(
+        times(mva, ONE),
+        scaled_power(rating, above_fundamental(order)),
+    )
 }
 
 /// A quality times an order times a base in MVA, in units of 10^-18.
@@ -119,7 +130,7 @@ fn quality_order_base(quality: Decimal, order: Decimal, mva: Decimal) -> i128
 
 /// The resistance of a C-type filter: w·n·s/(q·(n² - 1)).
 #[tactic(auto, unfolding(crate::specs::Filters::ctype_resistance))]
-pub fn ctype_resistance(rating: Decimal, order: Decimal, quality: Decimal, mva: Decimal) -> Fraction
+pub fn ctype_resistance(rating: Power, order: Decimal, quality: Decimal, mva: Decimal) -> Fraction
     requires rating { pos 1 ≤ℤ rating }
     requires order { IsIn TUNED_ORDER order }
     requires quality { IsIn QUALITY quality }
@@ -127,6 +138,6 @@ pub fn ctype_resistance(rating: Decimal, order: Decimal, quality: Decimal, mva: 
 {
     small(
         quality_order_base(quality, order, mva),
-        scaled(rating, above_fundamental(order)),
+        scaled_power(rating, above_fundamental(order)),
     )
 }

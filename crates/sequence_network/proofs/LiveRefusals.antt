@@ -9,23 +9,27 @@ use Rattle.study_model.specs.declared.records.Study.{Study}
 use Rattle.study_model.specs.declared.words.Sequence.TheVariants.{Positive, Zero}
 use Rattle.sequence_network.specs.Networks.{network_of}
 use Rattle.sequence_network.proofs.Liveness.{no_floating_bus}
-use Rattle.sequence_network.specs.Refusals.{bus_place, scan_place, IsLiveScan, IsFloatingBus, floating_bus, IsFloatingScan, floating_scan, IsLiveRefusal, positive_passes, zero_passes, bus, scan}
+use Rattle.sequence_network.specs.Refusals.{bus_place, scan_place, IsLiveScan, IsFirstDead, IsFloatingBus, floating_bus, IsFloatingScan, floating_scan, IsLiveRefusal, positive_passes, zero_passes, bus, scan}
 
 -- an element that is there and fails what another says of it
 both : {A : Type 0} (P : A → Type 0) (o : Option A) → IsSomeAnd o (λ x. ¬ P x) → IsSomeAnd o P → ⊥
 both P None fails holds = fails
 both P (Some x) fails holds = fails holds
 
-same_bus : (network : Network) (buses : ℕ) (f g : StudyFault) → IsFloatingBus network buses f → IsFloatingBus network buses g → f ≡ g
-same_bus network buses _ _ (floating_bus n inside before dead) (floating_bus m inside' before' dead') = go (order n m)
+-- there is one first dead node
+pub same_first : (network : Network) (buses n m : ℕ) → IsFirstDead network buses n → IsFirstDead network buses m → n ≡ m
+same_first network buses n m h k = go (order n m)
   where
     order : (a b : ℕ) → (a < b) ⊎ (a ≡ b) ⊎ (b < a)
     order a b = grind arith
 
-    go : (n < m) ⊎ (n ≡ m) ⊎ (m < n) → Floating (bus_place n) ≡ Floating (bus_place m)
-    go (inl less) = absurd (dead (before' n less))
-    go (inr (inl same)) = ap (λ (k : ℕ). Floating (bus_place k)) same
-    go (inr (inr less)) = absurd (dead' (before m less))
+    go : (n < m) ⊎ (n ≡ m) ⊎ (m < n) → n ≡ m
+    go (inl less) = absurd (h.dead (k.before n less))
+    go (inr (inl same)) = same
+    go (inr (inr less)) = absurd (k.dead (h.before m less))
+
+same_bus : (network : Network) (buses : ℕ) (f g : StudyFault) → IsFloatingBus network buses f → IsFloatingBus network buses g → f ≡ g
+same_bus network buses _ _ (floating_bus n h) (floating_bus m k) = ap (λ (i : ℕ). Floating (bus_place i)) (same_first network buses n m h k)
 
 same_scan : (network : Network) (scans : List ScanItem) (f g : StudyFault) → IsFloatingScan network scans f → IsFloatingScan network scans g → f ≡ g
 same_scan network scans _ _ (floating_scan n dead before) (floating_scan m dead' before') = go (order n m)

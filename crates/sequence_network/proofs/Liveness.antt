@@ -10,9 +10,9 @@ use Rattle.study_model.specs.declared.words.Sequence.TheVariants.{Positive, Zero
 use Rattle.study_model.specs.declared.fault.StudyFault.{StudyFault}
 use Rattle.study_model.specs.declared.records.ScanItem.{ScanItem}
 use Rattle.study_model.specs.declared.records.Study.{Study}
-use Rattle.element_parts.specs.Expansion.{with_element}
+use Rattle.element_parts.specs.Expansion.{Expansion, with_element}
 use Rattle.study_model.specs.Elements.{StudyElement, elements_of}
-use Rattle.sequence_network.specs.Networks.{expansion_of, with_elements, bus_nodes, network_of}
+use Rattle.sequence_network.specs.Networks.{grown, added_to, bus_nodes, network_of}
 use Rattle.sequence_network.specs.Refusals.{IsLiveScan, IsFloatingBus, IsFloatingScan, AreLiveBuses, IsLiveRefusal, HasLiveNetworks}
 use Rattle.sequence_network.specs.Refusals.IsFloatingBus.{floating_bus}
 use Rattle.sequence_network.specs.Refusals.IsFloatingScan.{floating_scan}
@@ -33,7 +33,7 @@ not_all P (x ∷ xs) (suc n) all h = not_all P xs n (λ k d l. all (suc k) d (om
 
 -- a study without refusal
 pub no_floating_bus : (study : Study) (fault : StudyFault) → AreLiveBuses study → IsFloatingBus (network_of study Positive) (length study.buses) fault → ⊥
-no_floating_bus study _ h (floating_bus n l before dead) = dead (h n l)
+no_floating_bus study _ h (floating_bus n first) = first.dead (h n first.inside)
 
 no_floating_scan : (study : Study) (fault : StudyFault) → All (IsLiveScan (network_of study Zero)) study.scans → IsFloatingScan (network_of study Zero) study.scans fault → ⊥
 no_floating_scan study _ h (floating_scan n dead before) = not_all (IsLiveScan (network_of study Zero)) study.scans n h dead
@@ -45,13 +45,13 @@ no_refusal study h _ (bus fault room f) = no_floating_bus study fault h.buses f
 no_refusal study h _ (scan fault room live f) = no_floating_scan study fault h.scans f
 
 -- the bus nodes of a network are the study's buses
-same_buses : (study : Study) (sequence : Sequence) (n : Network) (owner : ℕ) (xs : List StudyElement) → (with_elements study sequence n owner xs).buses ≡ n.buses
-same_buses study sequence n owner [] = refl
-same_buses study sequence n owner (x ∷ xs) = same_buses study sequence (with_element n (expansion_of study sequence n.nodes x owner)) (owner + 1) xs
+pub same_buses : (added : Network → StudyElement → ℕ → Expansion) (n : Network) (owner : ℕ) (xs : List StudyElement) → (grown added n owner xs).buses ≡ n.buses
+same_buses added n owner [] = refl
+same_buses added n owner (x ∷ xs) = same_buses added (with_element n (added n x owner)) (owner + 1) xs
 
 pub buses_of : (study : Study) (sequence : Sequence) → (network_of study sequence).buses ≡ length study.buses
 unfolding network_of
-buses_of study sequence = same_buses study sequence (bus_nodes study) 1 (elements_of study)
+buses_of study sequence = same_buses (added_to study sequence) (bus_nodes study) 1 (elements_of study)
 
 -- so many nodes hold the study's buses
 pub buses_within : (study : Study) (sequence : Sequence) (n : Network) → n ≡ network_of study sequence → n.buses ≤ n.nodes → length study.buses ≤ n.nodes

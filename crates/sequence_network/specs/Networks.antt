@@ -31,10 +31,17 @@ expansion_of study sequence next (of_load e) owner = load_expansion study e owne
 expansion_of study sequence next (of_bank e) owner = bank_expansion study e owner sequence
 expansion_of study sequence next (of_filter e) owner = filter_expansion study e owner sequence next
 
--- a network with further elements, which have their numbers from `owner` on
+-- a network with further elements, which have their numbers from `owner` on; `added` says what each adds to a network under its number
+abbrev pub grown : (Network → StudyElement → ℕ → Expansion) → Network → ℕ → List StudyElement → Network
+grown added network owner [] = network
+grown added network owner (e ∷ es) = grown added (with_element network (added network e owner)) (owner + 1) es
+
+-- what an element adds to a sequence network
+abbrev pub added_to : Study → Sequence → Network → StudyElement → ℕ → Expansion
+added_to study sequence network e owner = expansion_of study sequence network.nodes e owner
+
 abbrev pub with_elements : Study → Sequence → Network → ℕ → List StudyElement → Network
-with_elements study sequence network owner [] = network
-with_elements study sequence network owner (e ∷ es) = with_elements study sequence (with_element network (expansion_of study sequence network.nodes e owner)) (owner + 1) es
+with_elements study sequence network owner es = grown (added_to study sequence) network owner es
 
 -- a node for each bus
 abbrev pub bus_nodes : Study → Network

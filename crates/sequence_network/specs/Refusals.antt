@@ -29,9 +29,15 @@ scan_place n = record { section = section.Scan; entry = n + 1; key = key.Bus }
 abbrev pub IsLiveScan : Network → ScanItem → Type 0
 IsLiveScan zero scan = scan.network ≡ Zero → Live zero scan.bus
 
+-- the first of so many nodes that isn't live
+pub record IsFirstDead (network : Network) (buses n : ℕ) : Type 0 where
+  pub inside : n < buses
+  pub before : (k : ℕ) → k < n → Live network k
+  pub dead : ¬ Live network n
+
 -- the first bus that isn't live
 pub data IsFloatingBus (positive : Network) (buses : ℕ) : StudyFault → Type 0 where
-  floating_bus : (n : ℕ) → n < buses → ((k : ℕ) → k < n → Live positive k) → ¬ Live positive n → IsFloatingBus positive buses (Floating (bus_place n))
+  floating_bus : (n : ℕ) → IsFirstDead positive buses n → IsFloatingBus positive buses (Floating (bus_place n))
 
 -- the first scan of the zero network whose bus isn't live there
 pub data IsFloatingScan (zero : Network) (scans : List ScanItem) : StudyFault → Type 0 where

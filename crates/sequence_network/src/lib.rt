@@ -7,5 +7,6 @@ mod live;
 mod worked;
 
 pub use build::build_sequence;
-pub use live::{Networks, check_live, networks_of};
+pub use elements::element_count;
+pub use live::{Networks, check_live, check_positive, checked_network, first_dead, networks_of};
 pub use worked::impedance_by_hand;

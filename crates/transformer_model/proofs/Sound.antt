@@ -21,7 +21,7 @@ use Rattle.element_parts.proofs.Values.{kv_within, base_above}
 use Rattle.transformer_model.specs.Transformers.{leakage, windings, neutral_laws, neutral, behind, both_grounded, one_grounded, zero_transformer, transformer_in, transformer_expansion}
 
 -- ---- laws
-leakage_sound : (study : Study) (e : Transformer) → IsLawful study → IsLawfulTransformer study.buses e → IsSoundLaw (leakage study e)
+pub leakage_sound : (study : Study) (e : Transformer) → IsLawful study → IsLawfulTransformer study.buses e → IsSoundLaw (leakage study e)
 unfolding percent_per_unit
 leakage_sound study e s t =
     let x : pos 1 ≤ℤ e.x = omega (arith, ints, t.x.0) in

@@ -1,2 +1,4 @@
 pub mod Transformers
 pub mod NeutralLaws
+pub mod Windings
+pub mod ExactSides

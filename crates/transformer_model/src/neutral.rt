@@ -6,8 +6,9 @@ ghost use Rattle.element_parts.specs.PerUnit.{impedance_per_unit};
 ghost use Rattle.element_parts.specs.Expansion.{skin_series};
 ghost use Rattle.transformer_model.specs.Transformers.{neutral_laws, neutral, behind};
 ghost use Rattle.transformer_model.specs.NeutralLaws.{laws_of};
+ghost use Rattle.transformer_model.specs.Windings.{phase_neutral};
 
-use element_parts::{between, kv, skin_series, triple_impedance};
+use element_parts::{between, impedance, kv, skin_series, triple_impedance};
 use fixed_decimal::Decimal;
 use net_branch::{Branch, Law};
 use sqlite_items::Items;
@@ -94,4 +95,39 @@ pub fn push_neutral(
     };
     branches.push(between(alloc, bus, next, law, owner)?)?;
     Ok(())
+}
+
+/// The impedance of a neutral of `rn` and `xn` ohms at a bus of `kv`, in per unit.
+fn neutral_series(
+    study: &Study,
+    transformer: &Transformer,
+    kv: Decimal,
+    rn: Decimal,
+    xn: Decimal,
+) -> Law
+    requires { pos 1 ≤ℤ kv }
+    ensures { exact_law result ≡ skin_series (impedance_per_unit rn study.now.mva kv) transformer.now.skin_k transformer.now.skin_m (impedance_per_unit xn study.now.mva kv) }
+{
+    let r = impedance(rn, study.mva, kv);
+    let x = impedance(xn, study.mva, kv);
+    skin_series(r, transformer.skin_k, transformer.skin_m, x)
+}
+
+/// The impedance of a side's neutral of `rn` and `xn` ohms in three phases, none where both are 0.
+pub fn phase_neutral(
+    study: &Study,
+    transformer: &Transformer,
+    bus: u32,
+    rn: Decimal,
+    xn: Decimal,
+) -> Option<Law>
+    requires bus { bus < length study.now.buses }
+    requires kv { pos 1 ≤ℤ kv_of study.now.buses bus }
+    ensures { laws_of result ≡ phase_neutral study.now transformer.now bus rn xn }
+{
+    if has_impedance(rn, xn) {
+        Some(neutral_series(study, transformer, kv(study, bus), rn, xn))
+    } else {
+        None
+    }
 }

@@ -3,7 +3,7 @@ use Rattle.std.proofs.lemmas.Result.{err_from_is_err_and}
 use Rattle.network_theory.specs.Network.{Network}
 use Rattle.net_branch.specs.declared.network.Network.{Network as BuiltNetwork}
 use Rattle.study_model.specs.Elements.{elements_of}
-use Rattle.sequence_network.specs.Networks.{network_of}
+use Rattle.sequence_network.specs.Networks.{added_to, network_of}
 use Rattle.sequence_network.proofs.Branches.{network_small, network_uncoupled}
 use Rattle.sequence_network.proofs.Growth.{start_of, next_of, one_more, passing_element, all_added, whole_fits}
 use Rattle.sequence_network.proofs.Owners.{network_owned}
@@ -25,7 +25,7 @@ loop-place-preserved c =
     record {
       buses = ap (λ (n : Network). n.buses) added.appended ∙ c.loop-place.invariant.buses;
       whole = added.whole;
-      to_come = one_more study c.args.sequence _ _ _ c.loop-place.place next added.appended c.loop-place.invariant.to_come;
+      to_come = one_more (added_to study c.args.sequence) (elements_of study) _ _ _ c.loop-place.place next added.appended c.loop-place.invariant.to_come;
     }
 
 pub returns-in_err-add_element-clause-too_many : goal.returns-in_err-add_element-clause-too_many
@@ -35,12 +35,12 @@ returns-in_err-add_element-clause-too_many c =
     let within : c.loop-place.place < length (elements_of study) = omega (arith, c.loop-place-test.true, c.element_count-place-end.ensures.count) in
     let next = next_of (elements_of study) c.loop-place.place within in
     let added = c.in_err-add_element.ensures next.element next.there in
-    rw (p.1, p.2) (λ h. passing_element study c.args.sequence _ _ c.loop-place.place next (added.too_many h) c.loop-place.invariant.to_come)
+    rw (p.1, p.2) (λ h. passing_element (added_to study c.args.sequence) (elements_of study) _ _ c.loop-place.place next (added.too_many h) c.loop-place.invariant.to_come)
 
 pub returns-clause-network : goal.returns-clause-network
 returns-clause-network c =
     let study = c.args.study.now in
-    let exact = all_added study c.args.sequence _ _ c.loop-place.place (omega (arith, c.loop-place-test.false, c.element_count-place-end.ensures.count)) c.loop-place.invariant.to_come in
+    let exact = all_added (added_to study c.args.sequence) (elements_of study) _ _ c.loop-place.place (omega (arith, c.loop-place-test.false, c.element_count-place-end.ensures.count)) c.loop-place.invariant.to_come in
     record {
       exact = exact;
       whole = c.loop-place.invariant.whole;

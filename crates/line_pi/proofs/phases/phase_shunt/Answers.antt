@@ -1,0 +1,5 @@
+use Rattle.element_parts.proofs.Values.{kv_within}
+use Rattle.line_pi.proofs.phases.phase_shunt.Goals as goal
+
+pub susceptance_share-b-requires-clause-kv : goal.susceptance_share-b-requires-clause-kv
+susceptance_share-b-requires-clause-kv c = rw c.kv-kv.ensures (kv_within _ _ c.requires.study.buses c.requires.line.from)

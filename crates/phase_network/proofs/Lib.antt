@@ -1,0 +1,4 @@
+pub mod Groups
+pub mod Branches
+pub mod Refused
+pub mod Growing
