@@ -2,7 +2,7 @@
 use Rattle.std.proofs.Common.{◌≡◌, ◌∙◌, sym, subst, ℕ, suc, arith, Bool, true, ℤ, Option}
 use Rattle.std.proofs.lemmas.Int.{ints}
 use Rattle.std.specs.Ordering.{int_eq}
-use Rattle.std.specs.Prelude.{Some, ◌&&◌, pos, ◌≤ℤ◌}
+use Rattle.std.specs.Prelude.{Some, IsTrue, ◌&&◌, pos, ◌≤ℤ◌}
 use Rattle.exact_algebra.specs.Ratio.{Ratio, den, ◌≈◌, ◌≼◌, whole}
 use Rattle.exact_algebra.proofs.Differences.{products}
 use Rattle.exact_algebra.proofs.Ratios.{num_nought}
@@ -30,6 +30,10 @@ both_true a b e = grind arith
 is_zero : (n : ℤ) → int_eq n (pos 0) ≡ true → n ≡ pos 0
 is_zero n q = grind (arith, ints)
 
+-- what lies between two values that count as 0 is 0
+pub nought_where_plain : (a b x : Ratio) → IsTrue (int_eq a.num (pos 0) && int_eq b.num (pos 0)) → a ≼ x → x ≼ b → x ≈ whole (pos 0)
+nought_where_plain a b x t p q = let (e, f) = both_true (int_eq a.num (pos 0)) (int_eq b.num (pos 0)) t in nought_between a b x (is_zero a.num e) (is_zero b.num f) p q
+
 pub series_held : (s : ℕ) (r k m x xc r' k' m' x' xc' : Ratio) (p : SeriesEnds) → series_between s r k m x xc r' k' m' x' xc' ≡ Some p
     → (vr vk vm vx vc : Ratio) → r ≼ vr → vr ≼ r' → k ≼ vk → vk ≼ k' → m ≼ vm → vm ≼ m' → x ≼ vx → vx ≼ x' → xc ≼ vc → vc ≼ xc' → HoldsSeries s p vr vk vm vx vc
 series_held s r k m x xc r' k' m' x' xc' p e vr vk vm vx vc a1 b1 a2 b2 a3 b3 a4 b4 a5 b5 =
@@ -46,7 +50,7 @@ series_held s r k m x xc r' k' m' x' xc' p e vr vk vm vx vc a1 b1 a2 b2 a3 b3 a4
       m_held = range_encloses s _ _ vm a3 b3 em e3;
       x_held = range_encloses s _ _ vx a4 b4 ex e4;
       xc_held = range_encloses s _ _ vc a5 b5 ec e5;
-      k_is_nought = λ t. let (a, b) = both_true (int_eq k.num (pos 0)) (int_eq k'.num (pos 0)) t in nought_between k k' vk (is_zero k.num a) (is_zero k'.num b) a2 b2;
+      k_is_nought = λ t. nought_where_plain k k' vk t a2 b2;
     })
 
 pub between_holds : (s : ℕ) (low high : SeriesValues) (o : Option SeriesEnds) → o ≡ ends_between s low high → HoldsBetween s low high o

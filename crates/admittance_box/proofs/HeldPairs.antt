@@ -64,7 +64,7 @@ pub record HoldsTap (s : ℕ) (ordering : List ℕ) (p : PlacedTap) (v : Tap) : 
   pub place : place_of ordering v.node ≡ Some p.place
   pub ratio : Encloses s p.ratio v.ratio
 
-tap_holds : (s : ℕ) (ordering : List ℕ) (t u v : Tap) (p : PlacedTap) → TapUpTo t v → TapUpTo v u → tap_between s ordering t u ≡ Some p → HoldsTap s ordering p v
+pub tap_holds : (s : ℕ) (ordering : List ℕ) (t u v : Tap) (p : PlacedTap) → TapUpTo t v → TapUpTo v u → tap_between s ordering t u ≡ Some p → HoldsTap s ordering p v
 tap_holds s ordering t u v p a b e =
     let (place, e1, n1) = bind-some _ _ p e in
     let (ratio, e2, e3) = bind-some _ _ p n1 in

@@ -2,7 +2,7 @@
 use Rattle.std.proofs.Common.{◌≡◌, ℕ, refl, sym, subst, ◌∙◌, Bool, true, false, Option, pos}
 use Rattle.std.specs.Prelude.{Some, None, IsTrue, ◌==◌, ◌&&◌, if◌then◌else◌, nat_le}
 use Rattle.exact_algebra.specs.Ratio.{Ratio, ◌≈◌, times, whole, reciprocal}
-use Rattle.exact_algebra.specs.Complex.{Complex, ◌≅◌, complex_whole, complex_reciprocal, ◌+j◌}
+use Rattle.exact_algebra.specs.Complex.{Complex, ◌≅◌, complex_numbers, complex_whole, complex_reciprocal, ◌+j◌}
 use Rattle.exact_algebra.proofs.Complexes.{complex_field, re-complex_whole, im-complex_whole}
 use Rattle.exact_algebra.proofs.Holding.{holds_along}
 use Rattle.exact_algebra.proofs.Quotients.{quotient_is}
@@ -18,6 +18,7 @@ use Rattle.network_theory.specs.Branch.{Series}
 use Rattle.network_theory.specs.Impedance.{resistance, reactance, series_impedance, shunt_admittance}
 use Rattle.network_theory.proofs.OneBus.{resistance_plain}
 use Rattle.admittance_box.specs.Exact.{zero_ends, one_ends, one_rectangle}
+use Rattle.plain_elimination.specs.Matrix.{nought_rectangle}
 use Rattle.admittance_box.specs.Admittance.{SeriesEnds, skin_ends, resistance_ends, reactance_ends, series_admittance_rectangle, shunt_admittance_rectangle}
 use Rattle.admittance_box.specs.Held.{HoldsSeries, HoldsResistance, HoldsSeriesAdmittance, HoldsShuntAdmittance}
 use Rattle.admittance_box.proofs.Ranges.{one_encloses, zero_encloses}
@@ -84,16 +85,23 @@ reactance_encloses s x xc order a h vx vc ho hx hc e =
 
 -- ---- impedance and admittance
 -- x + jy by its parts
-plus_j_encloses : (s : ℕ) (a b : Ends) (x y : Ratio) → Encloses s a x → Encloses s b y → EnclosesComplex s (record { re = a; im = b }) (x +j y)
+pub plus_j_encloses : (s : ℕ) (a b : Ends) (x y : Ratio) → Encloses s a x → Encloses s b y → EnclosesComplex s (record { re = a; im = b }) (x +j y)
 plus_j_encloses s a b x y p q = record {
   re = holds_along _ _ s _ _ (ratio_ring.back (re-plus_j x y)) p;
   im = holds_along _ _ s _ _ (ratio_ring.back (im-plus_j x y)) q;
 }
 
-one_rectangle_encloses : (s : ℕ) → EnclosesComplex s (one_rectangle s) (complex_whole (pos 1))
+pub one_rectangle_encloses : (s : ℕ) → EnclosesComplex s (one_rectangle s) (complex_whole (pos 1))
 one_rectangle_encloses s = record {
   re = holds_along _ _ s _ _ (ratio_ring.back (re-complex_whole (pos 1))) (one_encloses s);
   im = holds_along _ _ s _ _ (ratio_ring.back (im-complex_whole (pos 1))) (zero_encloses s);
+}
+
+-- zero alone holds 0
+pub nought_held : (s : ℕ) → EnclosesComplex s nought_rectangle complex_numbers.nought
+nought_held s = record {
+  re = holds_along _ _ s _ _ (ratio_ring.back (re-complex_whole (pos 0))) (zero_encloses s);
+  im = holds_along _ _ s _ _ (ratio_ring.back (im-complex_whole (pos 0))) (zero_encloses s);
 }
 
 module _ (s : ℕ) (p : SeriesEnds) (order : Ends) (b : Rectangle) (h : Order) (r k m x xc : Ratio) (ho : Encloses s order (fraction h)) (held : HoldsSeries s p r k m x xc) (e : series_admittance_rectangle s p order ≡ Some b) where

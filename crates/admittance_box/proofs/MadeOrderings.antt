@@ -13,7 +13,7 @@ use Rattle.net_branch.specs.LiveNodes.{AreLive}
 use Rattle.net_branch.specs.Whole.{IsWholeNetwork}
 use Rattle.admittance_box.specs.Addends.{Addend, addends_between}
 use Rattle.admittance_box.specs.Assembled.{IsMade, IsKept}
-use Rattle.admittance_box.specs.HeldMatrix.{HasNoGroup, CanAssemble}
+use Rattle.admittance_box.specs.HeldMatrix.{CanAssemble}
 use Rattle.admittance_box.specs.Places.{live_from, node_ordering, IsNodeOrdering}
 use Rattle.admittance_box.proofs.NodeOrderings.{below_or}
 
@@ -71,9 +71,9 @@ made_order network driven marks slice ordering w a e o = record { live = λ n. g
         )
 
 -- networks with their node ordering are ready for an assembly
-pub ready_by : (low high : NetNetwork) (driven : ℕ) (marks slice : List Bool) (ordering : List ℕ) → IsWholeNetwork low → IsPair (exact_network low) (exact_network high) → HasNoGroup (exact_network low) → Live (exact_network low) driven
+pub ready_by : (low high : NetNetwork) (driven : ℕ) (marks slice : List Bool) (ordering : List ℕ) → IsWholeNetwork low → IsPair (exact_network low) (exact_network high) → Live (exact_network low) driven
     → AreLive low marks → slice ≡ marks → ordering ≡ node_ordering (exact_network low) (λ n. get_or slice n false) driven → CanAssemble (exact_network low) (exact_network high) driven ordering
-ready_by low high driven marks slice ordering w p n l a e o = record { pair = p; no_group = n; driven_is_live = l; ordered = made_order low driven marks slice ordering w a e o }
+ready_by low high driven marks slice ordering w p l a e o = record { pair = p; driven_is_live = l; ordered = made_order low driven marks slice ordering w a e o }
 
 -- what an assembly of copies keeps
 pub kept_by : (s : ℕ) (low high low' high' : NetNetwork) (driven : ℕ) (ordering ordering' : List ℕ) (ls hs : List NetBranch) (addends : List Addend) → low' ≡ low → high' ≡ high → ordering' ≡ ordering → ls ≡ low.branches → hs ≡ high.branches → IsWholeNetwork low

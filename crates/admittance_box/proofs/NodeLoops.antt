@@ -3,7 +3,7 @@ use Rattle.std.proofs.Common.{◌≡◌, ◌∙◌, ℕ, suc, ◌+◌, ◌-◌, 
 use Rattle.std.specs.Prelude.{◌&&◌, ◌==◌, not, if◌then◌else◌}
 use Rattle.net_branch.specs.declared.network.Branch.{Branch}
 use Rattle.net_branch.specs.Exact.{exact_branch}
-use Rattle.admittance_box.specs.Addends.{Addend, addend_between, addends_between}
+use Rattle.admittance_box.specs.Addends.{Addend, place_in_group, first_addend, addends_between}
 use Rattle.admittance_box.specs.Places.{live_from}
 use Rattle.admittance_box.proofs.TapLoops.{drop_item, map-append_one}
 
@@ -31,7 +31,7 @@ passed_over live driven node to before whole l t h =
 
 -- one more branch
 pub branches_more : {X : Type 0} (s : ℕ) (ordering : List ℕ) (low high : List Branch) (i : ℕ) (a b : Branch) → i < length low → a ≡ get_or low i a → i < length high → b ≡ get_or high i b
-    → (f : X → Addend) (items after : List X) (x : X) (whole : List Addend) → after ≡ items ++ x ∷ [] → f x ≡ addend_between s ordering (exact_branch a) (exact_branch b)
+    → (f : X → Addend) (items after : List X) (x : X) (whole : List Addend) → after ≡ items ++ x ∷ [] → f x ≡ first_addend s ordering (place_in_group (exact_branch a).law) (exact_branch a) (map exact_branch (drop (i + 1) low)) (exact_branch b) (map exact_branch (drop (i + 1) high))
     → whole ≡ map f items ++ addends_between s ordering (map exact_branch (drop i low)) (map exact_branch (drop i high))
     → whole ≡ map f after ++ addends_between s ordering (map exact_branch (drop (i + 1) low)) (map exact_branch (drop (i + 1) high))
 branches_more s ordering low high i a b la ea lb eb f items after x whole e k h =

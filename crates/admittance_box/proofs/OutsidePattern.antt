@@ -1,19 +1,22 @@
 -- The matrix of a box is zero outside the pattern's spots.
-use Rattle.std.proofs.Common.{◌≡◌, ◌∙◌, ℕ, zero, suc, ◌<◌, Bool, true, false, List, [], ◌∷◌, ◌++◌, length, get_or, replicate, refl, sym, ap, subst, arith}
-use Rattle.std.specs.Prelude.{Option, Some, None, Result, Ok, Err, slice_get, slice_set, if◌then◌else◌}
+use Rattle.std.proofs.Common.{◌≡◌, ◌∙◌, ℕ, zero, suc, ◌<◌, Bool, true, false, List, [], ◌∷◌, ◌++◌, length, replicate, refl, sym, ap, subst, arith}
+use Rattle.std.specs.Prelude.{Option, Some, None, Ok, slice_get, slice_set, ◌||◌, if◌then◌else◌}
 use Rattle.std.specs.List.{All, AllByRecursion, AllZip}
 use Rattle.complex_interval.specs.Ends.{Ends, range_ends, mul_ends}
 use Rattle.complex_interval.specs.Rectangles.{Rectangle, add_rectangles, scale_rectangle}
-use Rattle.network_theory.specs.Branch.{Tap, Branch, Law}
+use Rattle.network_theory.specs.Branch.{Tap, Branch}
 use Rattle.net_branch.proofs.Wholes.{each_append}
 use Rattle.plain_elimination.specs.Matrix.{entry, set_entry, nought_rectangle}
 use Rattle.plain_elimination.specs.declared.pattern.Spot.{Spot}
-use Rattle.admittance_box.specs.Addends.{LawEnds, PlacedTap, TapPair, Addend, Dead, Absent, Joined, law_between, tap_between, taps_between, pair_between, pairs_with, tap_pairs, has_place, joined, addend_between, addends_between}
-use Rattle.admittance_box.specs.BoxMatrix.{law_rectangle, grown, with_pairs, with_addend, or_branch, with_addends, nought_rows, box_matrix}
+use Rattle.admittance_box.specs.Addends.{LawEnds, PlacedTap, TapPair, PairRow, PairRows, Dead, law_between, tap_between, taps_between, pairs_with, tap_pairs, has_place, joined, addend_between, live_taps, pair_row, pair_rows, group_pairs, grouped, group_between, place_in_group, first_addend, addends_between}
+use Rattle.admittance_box.specs.Coupling.{CouplingEnds, Columns, law_coupling, coupling_columns}
+use Rattle.admittance_box.specs.BoxMatrix.{law_rectangle, grown, with_pairs, with_pair_row, with_pair_rows, with_addend, or_branch, with_addends, nought_rows, box_matrix}
 use Rattle.admittance_box.specs.Orders.{order_ends}
-use Rattle.admittance_box.specs.Pattern.{spot_at, spots_with, tap_spots, branch_spots, MatrixIsZeroOutside}
+use Rattle.admittance_box.specs.Pattern.{spot_at, spots_with, tap_spots, row_spots, first_spots, branch_spots, MatrixIsZeroOutside}
 use Rattle.admittance_box.specs.Places.{place_of}
 use Rattle.admittance_box.specs.Steps.{◌>>=◌}
+use Rattle.admittance_box.proofs.GroupPairs.{row_pairs, rows_pairs, row_steps}
+use Rattle.admittance_box.proofs.HeldTaps.{no_pairs}
 use Rattle.admittance_box.proofs.Steps.{bind-some}
 
 -- ---- lists
@@ -147,17 +150,89 @@ module _ (i j : ℕ) where
         by true e = joined_other h a b (law_between s a.law b.law) rows after other e
         by false e = let same : rows ≡ after = cc in ap (λ (r : List (List Rectangle)). entry r i j) (sym same)
 
+    -- ---- groups
+    -- taps by the places of their nodes, or none
+    data AreLocated : List PlacedTap → List Tap → Type 0 where
+      located : (ps : List PlacedTap) (ts : List Tap) → AllZip (IsAt ordering) ps ts → AreLocated ps ts
+      no_taps : (ts : List Tap) → AreLocated [] ts
+
+    live_located : (a b : Branch) (taps : List PlacedTap) → live_taps s ordering a b ≡ Some taps → AreLocated taps a.taps
+    live_located a b taps e = go (has_place ordering a.taps) e
+      where
+        go : (t : Bool) → (if t then taps_between s ordering a.taps b.taps else Some []) ≡ Some taps → AreLocated taps a.taps
+        go true k = located taps a.taps (taps_placed s ordering a.taps b.taps taps k)
+        go false k = let is : [] ≡ taps = cc in subst (λ ps. AreLocated ps a.taps) is (no_taps a.taps)
+
+    located_other : (ps : List PlacedTap) (ts : List Tap) → AreLocated ps ts → (qs : List PlacedTap) (us : List Tap) → AreLocated qs us → (pairs : List TapPair) → tap_pairs s ps qs ≡ Some pairs → AllByRecursion IsOtherSpot (tap_spots ordering ts us) → AllByRecursion IsOther pairs
+    located_other _ _ (located ps ts zp) _ _ (located qs us zq) pairs e other = tap_pairs_other ps qs ts us pairs zp zq e other
+    located_other _ _ (located ps ts zp) _ _ (no_taps us) pairs e other = let empty = no_pairs s ps in let is : [] ≡ pairs = cc in subst (AllByRecursion IsOther) is tt
+    located_other _ _ (no_taps ts) qs us lq pairs e other = let is : [] ≡ pairs = cc in subst (AllByRecursion IsOther) is tt
+
+    module _ (columns : Columns) (xs bs cs : List PlacedTap) (a b c : Branch) (la : AreLocated xs a.taps) (lb : AreLocated bs b.taps) (lc : AreLocated cs c.taps) where
+      row_other : (place : ℕ) (taps : List PlacedTap) (ts : List Tap) → AreLocated taps ts → (row : PairRow) → pair_row s taps xs bs cs ≡ Some row → AllByRecursion IsOtherSpot (row_spots ordering ts a b c)
+          → (rows after : List (List Rectangle)) → with_pair_row s columns place row rows ≡ Some after → entry after i j ≡ entry rows i j
+      row_other place taps ts lt row e other rows after g =
+          let (k1, k2, k3) = row_pairs s taps xs bs cs row e in
+          let t = row_steps s columns place row rows after g in
+          let front = first_part IsOtherSpot (tap_spots ordering ts a.taps ++ tap_spots ordering ts b.taps) (tap_spots ordering ts c.taps) other in
+          let o1 = located_other taps ts lt xs a.taps la row.first k1 (first_part IsOtherSpot (tap_spots ordering ts a.taps) (tap_spots ordering ts b.taps) front) in
+          let o2 = located_other taps ts lt bs b.taps lb row.second k2 (second_part IsOtherSpot (tap_spots ordering ts a.taps) (tap_spots ordering ts b.taps) front) in
+          let o3 = located_other taps ts lt cs c.taps lc row.third k3 (second_part IsOtherSpot (tap_spots ordering ts a.taps ++ tap_spots ordering ts b.taps) (tap_spots ordering ts c.taps) other) in
+          pairs_other s t.c row.third t.two after o3 t.third ∙ pairs_other s t.b row.second t.one t.two o2 t.second ∙ pairs_other s t.a row.first rows t.one o1 t.first
+
+      rows_other : (pairs : PairRows) → pair_rows s xs bs cs ≡ Some pairs → AllByRecursion IsOtherSpot (row_spots ordering a.taps a b c ++ row_spots ordering b.taps a b c ++ row_spots ordering c.taps a b c)
+          → (rows after : List (List Rectangle)) → with_pair_rows s columns pairs rows ≡ Some after → entry after i j ≡ entry rows i j
+      rows_other pairs e other rows after g =
+          let (k1, k2, k3) = rows_pairs s xs bs cs pairs e in
+          let ra = row_spots ordering a.taps a b c in
+          let rb = row_spots ordering b.taps a b c in
+          let rc = row_spots ordering c.taps a b c in
+          let (two, g2, g3) = bind-some (with_pair_row s columns 0 pairs.first rows >>= with_pair_row s columns 1 pairs.second) (with_pair_row s columns 2 pairs.third) after g in
+          let (one, g0, g1) = bind-some (with_pair_row s columns 0 pairs.first rows) (with_pair_row s columns 1 pairs.second) two g2 in
+          let front = first_part IsOtherSpot (ra ++ rb) rc other in
+          row_other 2 cs c.taps lc pairs.third k3 (second_part IsOtherSpot (ra ++ rb) rc other) two after g3
+          ∙ row_other 1 bs b.taps lb pairs.second k2 (second_part IsOtherSpot ra rb front) one two g1
+          ∙ row_other 0 xs a.taps la pairs.first k1 (first_part IsOtherSpot ra rb front) rows one g0
+
+    group_other : (h : Ends) (a b c a' b' c' : Branch) (rows after : List (List Rectangle)) → AllByRecursion IsOtherSpot (row_spots ordering a.taps a b c ++ row_spots ordering b.taps a b c ++ row_spots ordering c.taps a b c)
+        → with_addend s h (group_between s ordering a b c a' b' c') rows ≡ Some after → entry after i j ≡ entry rows i j
+    group_other h a b c a' b' c' rows after other = by_place (has_place ordering a.taps || has_place ordering b.taps || has_place ordering c.taps)
+      where
+        by_pairs : (values : Option CouplingEnds) (pairs : Option PairRows) → group_pairs s ordering a b c a' b' c' ≡ pairs → with_addend s h (grouped values pairs) rows ≡ Some after → entry after i j ≡ entry rows i j
+        by_pairs None pairs k e = absurd cc
+        by_pairs (Some values) None k e = absurd cc
+        by_pairs (Some values) (Some pairs) k e =
+            let (columns, first, rest) = bind-some (coupling_columns s h values) (λ columns. with_pair_rows s columns pairs rows) after e in
+            let (xs, e1, n1) = bind-some _ _ pairs k in
+            let (bs, e2, n2) = bind-some _ _ pairs n1 in
+            let (cs, e3, n3) = bind-some _ _ pairs n2 in
+            rows_other columns xs bs cs a b c (live_located a a' xs e1) (live_located b b' bs e2) (live_located c c' cs e3) pairs n3 other rows after rest
+
+        by_place : (t : Bool) → with_addend s h (if t then grouped (law_coupling s a.law a'.law) (group_pairs s ordering a b c a' b' c') else Dead) rows ≡ Some after → entry after i j ≡ entry rows i j
+        by_place true e = by_pairs (law_coupling s a.law a'.law) (group_pairs s ordering a b c a' b' c') refl e
+        by_place false e = let same : rows ≡ after = cc in ap (λ (r : List (List Rectangle)). entry r i j) (sym same)
+
+    first_other : (h : Ends) (place : Option ℕ) (a : Branch) (xs : List Branch) (a' : Branch) (bs : List Branch) (rows after : List (List Rectangle)) → AllByRecursion IsOtherSpot (first_spots ordering place a xs)
+        → with_addend s h (first_addend s ordering place a xs a' bs) rows ≡ Some after → entry after i j ≡ entry rows i j
+    first_other h None a xs a' bs rows after other e = addend_other h a a' rows after other e
+    first_other h (Some zero) a [] a' bs rows after other e = absurd cc
+    first_other h (Some zero) a (b ∷ []) a' bs rows after other e = absurd cc
+    first_other h (Some zero) a (b ∷ c ∷ xs) a' [] rows after other e = absurd cc
+    first_other h (Some zero) a (b ∷ c ∷ xs) a' (b' ∷ []) rows after other e = absurd cc
+    first_other h (Some zero) a (b ∷ c ∷ xs) a' (b' ∷ c' ∷ bs) rows after other e = group_other h a b c a' b' c' rows after other e
+    first_other h (Some (suc place)) a xs a' bs rows after other e = let same : rows ≡ after = cc in ap (λ (r : List (List Rectangle)). entry r i j) (sym same)
+
     addends_other : (h : Ends) (k : ℕ) (xs bs : List Branch) (rows after : List (List Rectangle)) → AllByRecursion IsOtherSpot (branch_spots ordering xs) → with_addends s h k (addends_between s ordering xs bs) rows ≡ Ok after → entry after i j ≡ entry rows i j
     addends_other h k [] bs rows after other e = let same : rows ≡ after = cc in ap (λ (r : List (List Rectangle)). entry r i j) (sym same)
     addends_other h k (a ∷ xs) [] rows after other e = let same : rows ≡ after = cc in ap (λ (r : List (List Rectangle)). entry r i j) (sym same)
     addends_other h k (a ∷ xs) (b ∷ bs) rows after other e =
-        go (with_addend s h (addend_between s ordering a b) rows) refl e
-        (λ mid. addends_other h (suc k) xs bs mid after (second_part IsOtherSpot (tap_spots ordering a.taps a.taps) (branch_spots ordering xs) other))
+        go (with_addend s h (first_addend s ordering (place_in_group a.law) a xs b bs) rows) refl e
+        (λ mid. addends_other h (suc k) xs bs mid after (second_part IsOtherSpot (first_spots ordering (place_in_group a.law) a xs) (branch_spots ordering xs) other))
       where
-        go : (o : Option (List (List Rectangle))) → with_addend s h (addend_between s ordering a b) rows ≡ o → or_branch k o (with_addends s h (suc k) (addends_between s ordering xs bs)) ≡ Ok after
+        go : (o : Option (List (List Rectangle))) → with_addend s h (first_addend s ordering (place_in_group a.law) a xs b bs) rows ≡ o → or_branch k o (with_addends s h (suc k) (addends_between s ordering xs bs)) ≡ Ok after
             → ((mid : List (List Rectangle)) → with_addends s h (suc k) (addends_between s ordering xs bs) mid ≡ Ok after → entry after i j ≡ entry mid i j) → entry after i j ≡ entry rows i j
         go None is e more = absurd cc
-        go (Some mid) is e more = more mid e ∙ addend_other h a b rows mid (first_part IsOtherSpot (tap_spots ordering a.taps a.taps) (branch_spots ordering xs) other) is
+        go (Some mid) is e more = more mid e ∙ first_other h (place_in_group a.law) a xs b bs rows mid (first_part IsOtherSpot (first_spots ordering (place_in_group a.law) a xs) (branch_spots ordering xs) other) is
 
 pub zero_outside : MatrixIsZeroOutside
 unfolding box_matrix

@@ -1,7 +1,7 @@
 -- The places of nodes in the order, and of the pairs of a branch's taps.
 use Rattle.std.proofs.Common.{◌≡◌, ℕ, zero, suc, ◌<◌, ◌≤◌, Bool, true, false, List, [], ◌∷◌, ◌++◌, length, map, get_or, refl, sym, subst, ap, arith, Option, inl, inr}
 use Rattle.std.proofs.lemmas.Option.{slice_get_within}
-use Rattle.std.specs.Prelude.{Some, None, IsSome, IfSome, is_some, slice_get, ◌==◌, if◌then◌else◌}
+use Rattle.std.specs.Prelude.{Some, None, IsSome, IfSome, is_some, slice_get, ◌==◌, ◌||◌, if◌then◌else◌}
 use Rattle.std.specs.List.{AllByRecursion}
 use Rattle.std.specs.Option.{option_map}
 use Rattle.complex_interval.specs.Ends.{Ends, range_ends, mul_ends}
@@ -11,16 +11,19 @@ use Rattle.network_theory.specs.Live.{Live}
 use Rattle.network_theory.specs.Nodal.{ListsLive}
 use Rattle.network_theory.proofs.Bridge.{contains_among, among_contains}
 use Rattle.network_theory.proofs.Carried.{IsAmong}
+use Rattle.admittance_box.specs.declared.group_taps.RowProducts.{RowProducts}
 use Rattle.admittance_box.specs.declared.intervals.BranchIntervals.{BranchIntervals}
-use Rattle.admittance_box.specs.declared.intervals.BranchIntervals.TheVariants.{Dead as DeadIntervals, Absent as AbsentIntervals, Joined as JoinedIntervals}
+use Rattle.admittance_box.specs.declared.intervals.BranchIntervals.TheVariants.{Dead as DeadIntervals, Absent as AbsentIntervals, Joined as JoinedIntervals, Grouped as GroupedIntervals}
 use Rattle.admittance_box.specs.declared.intervals.TapProduct.{TapProduct}
-use Rattle.admittance_box.specs.Addends.{LawEnds, PlacedTap, TapPair, Dead, Joined, tap_between, taps_between, pair_between, pairs_with, tap_pairs, has_place, joined, law_between, addend_between, addends_between}
-use Rattle.admittance_box.specs.Filled.{IsWithin}
-use Rattle.admittance_box.specs.Intervals.{pair_ends, addend_of}
+use Rattle.admittance_box.specs.Addends.{LawEnds, PlacedTap, TapPair, PairRow, PairRows, Addend, Dead, Absent, Joined, Grouped, tap_between, taps_between, pair_between, pairs_with, tap_pairs, has_place, joined, law_between, addend_between, live_taps, pair_row, group_pairs, grouped, group_between, place_in_group, first_addend, addends_between}
+use Rattle.admittance_box.specs.Coupling.{CouplingEnds, law_coupling}
+use Rattle.admittance_box.specs.Filled.{IsRowWithin, IsWithin}
+use Rattle.admittance_box.specs.Intervals.{pair_ends, row_ends, addend_of}
 use Rattle.admittance_box.specs.Places.{place_of}
 use Rattle.admittance_box.specs.Steps.{◌>>=◌}
+use Rattle.admittance_box.proofs.GroupPairs.{row_pairs, rows_pairs}
 use Rattle.admittance_box.proofs.HeldEntries.{some_suc}
-use Rattle.admittance_box.proofs.HeldMatrices.{place-among}
+use Rattle.admittance_box.proofs.LivePlaces.{place-among}
 use Rattle.admittance_box.proofs.Steps.{bind-some}
 
 -- ---- nodes
@@ -64,7 +67,7 @@ all-append size [] ys a b = b
 all-append size (x ∷ xs) ys a b = (a.0, all-append size xs ys a.1 b)
 
 module _ (s : ℕ) (ordering : List ℕ) where
-  tap_below : (t u : Tap) (p : PlacedTap) → tap_between s ordering t u ≡ Some p → p.place < length ordering
+  pub tap_below : (t u : Tap) (p : PlacedTap) → tap_between s ordering t u ≡ Some p → p.place < length ordering
   tap_below t u p e =
       let (place, e1, n1) = bind-some (place_of ordering t.node) _ p e in
       let (ratio, e2, e3) = bind-some (range_ends s t.ratio u.ratio) (λ r. Some (record { place = place; ratio = r })) p n1 in
@@ -102,24 +105,75 @@ module _ (s : ℕ) (ordering : List ℕ) where
       let is : row ++ rest ≡ pairs = cc in
       subst (AllByRecursion (Below (length ordering))) is (all-append (length ordering) row rest (row_below t us row a.0 b e1) (pairs_below ts us rest a.1 b e2))
 
-  addend_below : (a b : Branch) (law : LawEnds) (pairs : List TapPair) → addend_between s ordering a b ≡ Joined law pairs → AllByRecursion (Below (length ordering)) pairs
-  addend_below a b law pairs e = by_place (has_place ordering a.taps) e
+  -- the pairs of a row of a group, and of what a branch adds
+  abbrev RowBelow : PairRow → Type 0
+  RowBelow row = AllByRecursion (Below (length ordering)) row.first × AllByRecursion (Below (length ordering)) row.second × AllByRecursion (Below (length ordering)) row.third
+
+  abbrev AddendBelow : Addend → Type 0
+  AddendBelow Dead = Unit {0}
+  AddendBelow Absent = Unit {0}
+  AddendBelow (Joined law pairs) = AllByRecursion (Below (length ordering)) pairs
+  AddendBelow (Grouped values rows) = RowBelow rows.first × RowBelow rows.second × RowBelow rows.third
+
+  abbrev TapsBelow : List PlacedTap → Type 0
+  TapsBelow taps = AllByRecursion (λ p. p.place < length ordering) taps
+
+  addend_below : (a b : Branch) → AddendBelow (addend_between s ordering a b)
+  addend_below a b = by_place (has_place ordering a.taps)
     where
-      by_pairs : (l : LawEnds) (taps : List PlacedTap) → AllByRecursion (λ p. p.place < length ordering) taps → (o : Option (List TapPair)) → tap_pairs s taps taps ≡ o → joined (Some l) o ≡ Joined law pairs → AllByRecursion (Below (length ordering)) pairs
-      by_pairs l taps h None k q = absurd cc
-      by_pairs l taps h (Some ps) k q = let is : ps ≡ pairs = cc in subst (AllByRecursion (Below (length ordering))) is (pairs_below taps taps ps h h k)
+      by_pairs : (l : LawEnds) (taps : List PlacedTap) → TapsBelow taps → (o : Option (List TapPair)) → tap_pairs s taps taps ≡ o → AddendBelow (joined (Some l) o)
+      by_pairs l taps h None k = tt
+      by_pairs l taps h (Some pairs) k = pairs_below taps taps pairs h h k
 
-      by_taps : (l : LawEnds) (o : Option (List PlacedTap)) → taps_between s ordering a.taps b.taps ≡ o → joined (Some l) (o >>= (λ taps. tap_pairs s taps taps)) ≡ Joined law pairs → AllByRecursion (Below (length ordering)) pairs
-      by_taps l None k q = absurd cc
-      by_taps l (Some taps) k q = by_pairs l taps (taps_below a.taps b.taps taps k) (tap_pairs s taps taps) refl q
+      by_taps : (l : Option LawEnds) (o : Option (List PlacedTap)) → taps_between s ordering a.taps b.taps ≡ o → AddendBelow (joined l (o >>= (λ taps. tap_pairs s taps taps)))
+      by_taps None o k = tt
+      by_taps (Some l) None k = tt
+      by_taps (Some l) (Some taps) k = by_pairs l taps (taps_below a.taps b.taps taps k) (tap_pairs s taps taps) refl
 
-      by_law : (o : Option LawEnds) → joined o (taps_between s ordering a.taps b.taps >>= (λ taps. tap_pairs s taps taps)) ≡ Joined law pairs → AllByRecursion (Below (length ordering)) pairs
-      by_law None q = absurd cc
-      by_law (Some l) q = by_taps l (taps_between s ordering a.taps b.taps) refl q
+      by_place : (t : Bool) → AddendBelow (if t then joined (law_between s a.law b.law) (taps_between s ordering a.taps b.taps >>= (λ taps. tap_pairs s taps taps)) else Dead)
+      by_place true = by_taps (law_between s a.law b.law) (taps_between s ordering a.taps b.taps) refl
+      by_place false = tt
 
-      by_place : (t : Bool) → (if t then joined (law_between s a.law b.law) (taps_between s ordering a.taps b.taps >>= (λ taps. tap_pairs s taps taps)) else Dead) ≡ Joined law pairs → AllByRecursion (Below (length ordering)) pairs
-      by_place true q = by_law (law_between s a.law b.law) q
-      by_place false q = absurd cc
+  live_below : (a b : Branch) (taps : List PlacedTap) → live_taps s ordering a b ≡ Some taps → TapsBelow taps
+  live_below a b taps e = go (has_place ordering a.taps) e
+    where
+      go : (t : Bool) → (if t then taps_between s ordering a.taps b.taps else Some []) ≡ Some taps → TapsBelow taps
+      go true k = taps_below a.taps b.taps taps k
+      go false k = let is : [] ≡ taps = cc in subst TapsBelow is tt
+
+  group_row_below : (taps xs bs cs : List PlacedTap) (row : PairRow) → TapsBelow taps → TapsBelow xs → TapsBelow bs → TapsBelow cs → pair_row s taps xs bs cs ≡ Some row → RowBelow row
+  group_row_below taps xs bs cs row h ha hb hc e =
+      let (k1, k2, k3) = row_pairs s taps xs bs cs row e in
+      (pairs_below taps xs row.first h ha k1, pairs_below taps bs row.second h hb k2, pairs_below taps cs row.third h hc k3)
+
+  group_below : (a b c a' b' c' : Branch) → AddendBelow (group_between s ordering a b c a' b' c')
+  group_below a b c a' b' c' = by_place (has_place ordering a.taps || has_place ordering b.taps || has_place ordering c.taps)
+    where
+      by_pairs : (values : Option CouplingEnds) (o : Option PairRows) → group_pairs s ordering a b c a' b' c' ≡ o → AddendBelow (grouped values o)
+      by_pairs None o k = tt
+      by_pairs (Some values) None k = tt
+      by_pairs (Some values) (Some rows) k =
+          let (xs, e1, n1) = bind-some _ _ rows k in
+          let (bs, e2, n2) = bind-some _ _ rows n1 in
+          let (cs, e3, n3) = bind-some _ _ rows n2 in
+          let ha = live_below a a' xs e1 in
+          let hb = live_below b b' bs e2 in
+          let hc = live_below c c' cs e3 in
+          let (k1, k2, k3) = rows_pairs s xs bs cs rows n3 in
+          (group_row_below xs xs bs cs rows.first ha ha hb hc k1, group_row_below bs xs bs cs rows.second hb ha hb hc k2, group_row_below cs xs bs cs rows.third hc ha hb hc k3)
+
+      by_place : (t : Bool) → AddendBelow (if t then grouped (law_coupling s a.law a'.law) (group_pairs s ordering a b c a' b' c') else Dead)
+      by_place true = by_pairs (law_coupling s a.law a'.law) (group_pairs s ordering a b c a' b' c') refl
+      by_place false = tt
+
+  first_below : (place : Option ℕ) (a : Branch) (xs : List Branch) (b : Branch) (bs : List Branch) → AddendBelow (first_addend s ordering place a xs b bs)
+  first_below None a xs b bs = addend_below a b
+  first_below (Some zero) a [] a' bs = tt
+  first_below (Some zero) a (b ∷ []) a' bs = tt
+  first_below (Some zero) a (b ∷ c ∷ xs) a' [] = tt
+  first_below (Some zero) a (b ∷ c ∷ xs) a' (b' ∷ []) = tt
+  first_below (Some zero) a (b ∷ c ∷ xs) a' (b' ∷ c' ∷ bs) = group_below a b c a' b' c'
+  first_below (Some (suc place)) a xs b bs = tt
 
   module _ {E : Type 0} (ends : E → Ends) where
     items_below : (ps : List (TapProduct E)) → AllByRecursion (Below (length ordering)) (map (pair_ends ends) ps) → (k : ℕ) (d : TapProduct E) → k < length ps → (get_or ps k d).row < length ordering × (get_or ps k d).column < length ordering
@@ -127,17 +181,25 @@ module _ (s : ℕ) (ordering : List ℕ) where
     items_below (p ∷ ps) h zero d l = h.0
     items_below (p ∷ ps) h (suc k) d l = items_below ps h.1 k d (omega arith)
 
-    branch_within : (a b : Branch) (x : BranchIntervals E) → addend_of ends x ≡ addend_between s ordering a b → IsWithin (length ordering) x
-    branch_within a b DeadIntervals e = tt
-    branch_within a b AbsentIntervals e = tt
-    branch_within a b (JoinedIntervals law pairs) e = items_below pairs.items (addend_below a b _ _ (sym e))
+    row_within : (row : RowProducts E) → RowBelow (row_ends ends row) → IsRowWithin (length ordering) row
+    row_within row h = record { first = items_below row.first.items h.0; second = items_below row.second.items h.1; third = items_below row.third.items h.2 }
+
+    branch_within : (x : BranchIntervals E) → AddendBelow (addend_of ends x) → IsWithin (length ordering) x
+    branch_within DeadIntervals h = tt
+    branch_within AbsentIntervals h = tt
+    branch_within (JoinedIntervals law pairs) h = items_below pairs.items h
+    branch_within (GroupedIntervals group) h =
+        let rows = group.value.products in
+        record { first = row_within rows.first h.0; second = row_within rows.second h.1; third = row_within rows.third h.2 }
 
     -- the pairs of each branch have places in the matrix
     pub branches_within : (ls hs : List Branch) (xs : List (BranchIntervals E)) → map (addend_of ends) xs ≡ addends_between s ordering ls hs → (k : ℕ) (d : BranchIntervals E) → k < length xs → IsWithin (length ordering) (get_or xs k d)
     branches_within ls hs [] e k d l = absurd (omega arith)
     branches_within [] hs (x ∷ xs) e k d l = absurd cc
     branches_within (a ∷ ls) [] (x ∷ xs) e k d l = absurd cc
-    branches_within (a ∷ ls) (b ∷ hs) (x ∷ xs) e zero d l = let first : addend_of ends x ≡ addend_between s ordering a b = cc in branch_within a b x first
+    branches_within (a ∷ ls) (b ∷ hs) (x ∷ xs) e zero d l =
+        let first : first_addend s ordering (place_in_group a.law) a ls b hs ≡ addend_of ends x = cc in
+        branch_within x (subst AddendBelow first (first_below (place_in_group a.law) a ls b hs))
     branches_within (a ∷ ls) (b ∷ hs) (x ∷ xs) e (suc k) d l = let rest : map (addend_of ends) xs ≡ addends_between s ordering ls hs = cc in branches_within ls hs xs rest k d (omega arith)
 
     -- and there are as many as in the networks

@@ -10,7 +10,7 @@ use Rattle.exact_algebra.specs.Floor.{floor_div, ceil_div}
 use Rattle.exact_algebra.specs.Ratio.{Ratio, over, den, whole, ◌≼◌}
 use Rattle.exact_algebra.proofs.Differences.{neg-mul}
 use Rattle.exact_algebra.proofs.WholeOrder.{floor_div_le, floor_div_greatest, floor_div-is, ceil_div_least, ceil_div_ge}
-use Rattle.complex_interval.specs.Ends.{Ends, Encloses, is_end, ends_in_range, range_ends, mul_ends, least_of_four, greatest_of_four}
+use Rattle.complex_interval.specs.Ends.{Ends, Encloses, is_end, ends_in_range, range_ends, mul_ends}
 use Rattle.complex_interval.proofs.Ranges.{floor_at_most, ceil_at_least}
 use Rattle.network_theory.specs.Order.{Order, IsOrder, fraction}
 use Rattle.admittance_box.specs.Exact.{zero_ends, one_ends}

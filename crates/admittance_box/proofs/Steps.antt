@@ -23,3 +23,7 @@ is_some-map f None p b e k = absurd cc
 pub map-some : {A B : Type 0} (f : A → B) (o : Option A) (a : A) (p : Option B) (b : B) → o ≡ Some a → option_map f o ≡ p → p ≡ Some b → f a ≡ b
 map-some f (Some c) a p b i e k = cc
 map-some f None a p b i e k = absurd cc
+
+-- two values that there are
+pub value_is : {A : Type 0} (a b : A) → Some a ≡ Some b → a ≡ b
+value_is a b e = cc

@@ -46,3 +46,11 @@ module _ (s : ℕ) (ordering : List ℕ) (low high : List Tap) (i : ℕ) (t u : 
   taps_more f items after x whole e k h = h ∙ ap (option_map (λ more. map f items ++ more)) (rest_of ∙ ap (λ o. o >>= (λ tap. taps_between s ordering (map exact_tap (drop (i + 1) low)) (map exact_tap (drop (i + 1) high)) >>= (λ taps. Some (tap ∷ taps)))) (sym k))
       ∙ one_more (map f items) (f x) (taps_between s ordering (map exact_tap (drop (i + 1) low)) (map exact_tap (drop (i + 1) high)))
       ∙ ap (λ l. option_map (λ more. l ++ more) (taps_between s ordering (map exact_tap (drop (i + 1) low)) (map exact_tap (drop (i + 1) high)))) (sym (ap (map f) e ∙ map-append_one f items x))
+
+-- the items from a place on
+pub zip_drop : {X Y : Type 0} (R : Y → Y → Type 0) (f : X → Y) (xs zs : List X) (i : ℕ) → AllZip R (map f xs) (map f zs) → AllZip R (map f (drop i xs)) (map f (drop i zs))
+zip_drop R f xs zs zero h = h
+zip_drop R f [] [] (suc i) h = tt
+zip_drop R f [] (v ∷ zs) (suc i) h = absurd h
+zip_drop R f (w ∷ xs) [] (suc i) h = absurd h
+zip_drop R f (w ∷ xs) (v ∷ zs) (suc i) h = zip_drop R f xs zs i h.1

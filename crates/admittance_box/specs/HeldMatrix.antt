@@ -16,14 +16,13 @@ use Rattle.plain_elimination.specs.Rectangles.{reduce_rectangles}
 use Rattle.admittance_box.specs.BoxMatrix.{box_matrix}
 use Rattle.admittance_box.specs.Places.{IsNodeOrdering}
 
--- no branch belongs to a group of three, which the assembly can't take yet
+-- no branch belongs to a group of three
 abbrev pub HasNoGroup : Network → Type 0
 HasNoGroup network = AllByRecursion IsUncoupled network.branches
 
 -- a pair of networks and a live node with its node ordering, for which the assembly is meant
 pub record CanAssemble (low high : Network) (driven : ℕ) (ordering : List ℕ) : Type 0 where
   pub pair : IsPair low high
-  pub no_group : HasNoGroup low
   pub driven_is_live : Live low driven
   pub ordered : IsNodeOrdering low driven ordering
 

@@ -2,8 +2,11 @@ pub mod Addends
 pub mod Admittance
 pub mod Assembled
 pub mod BoxMatrix
+pub mod Coupling
+pub mod Current
 pub mod Exact
 pub mod Filled
+pub mod Groups
 pub mod Held
 pub mod HeldMatrix
 pub mod Intervals
@@ -12,3 +15,4 @@ pub mod Pattern
 pub mod Places
 pub mod Series
 pub mod Steps
+pub mod Terminal

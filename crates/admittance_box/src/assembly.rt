@@ -9,13 +9,14 @@ ghost use Rattle.net_branch.specs.Whole.{IsWholeNetwork};
 ghost use Rattle.admittance_box.specs.Assembled.{Assembled, IsMade};
 ghost use Rattle.admittance_box.specs.BoxMatrix.{box_matrix};
 ghost use Rattle.admittance_box.specs.Filled.{FillsAs};
-ghost use Rattle.admittance_box.specs.HeldMatrix.{HasNoGroup, CanAssemble, HoldsEach};
+ghost use Rattle.admittance_box.specs.HeldMatrix.{CanAssemble, HoldsEach};
 ghost use Rattle.admittance_box.specs.Pattern.{IsPattern};
 ghost use Rattle.admittance_box.specs.declared.fill.Fill.TheVariants.{Filled};
 
 use crate::branches::branches_between;
 use crate::copies::copy_of;
 use crate::fill::{Fill, add_branches};
+use crate::group_bench::GroupBench;
 use crate::intervals::BranchIntervals;
 use crate::node_ordering::order_nodes;
 use crate::orders::order_range;
@@ -36,6 +37,7 @@ pub struct Assembly<E: Enclosure> {
     driven: u32,
     ordering: Vec<u32>,
     branches: Vec<BranchIntervals<E>>,
+    bench: GroupBench<E>,
 }
 
 impl<E: Enclosure> Model for Assembly<E> {
@@ -63,7 +65,6 @@ impl<E: Enclosure> Assembly<E> {
         requires whole_low { IsWholeNetwork low.now }
         requires whole_high { IsWholeNetwork high.now }
         requires pair { IsPair (exact_network low.now) (exact_network high.now) }
-        requires no_group { HasNoGroup (exact_network low.now) }
         requires live { Live (exact_network low.now) driven.number }
         ensures { IfOk result (λ a. IsMade (exact_network low.now) (exact_network high.now) driven.number a) }
     {
@@ -78,13 +79,13 @@ impl<E: Enclosure> Assembly<E> {
             driven: driven.number,
             ordering,
             branches,
+            bench: GroupBench::new(alloc)?,
         })
     }
 
     /// The assembly of a network alone: that of the network and itself.
     pub fn new(alloc: Global, network: &Network, driven: NodeId) -> Result<Assembly<E>, AllocError>
         requires whole { IsWholeNetwork network.now }
-        requires no_group { HasNoGroup (exact_network network.now) }
         requires live { Live (exact_network network.now) driven.number }
         ensures { IfOk result (λ a. IsMade (exact_network network.now) (exact_network network.now) driven.number a) }
     {
@@ -156,6 +157,6 @@ impl<E: Enclosure> Assembly<E> {
     {
         let order = order_range(lo, hi);
         matrix.clear();
-        add_branches(self.branches.as_slice(), order, matrix)
+        add_branches(self.branches.as_slice(), order, &mut self.bench, matrix)
     }
 }

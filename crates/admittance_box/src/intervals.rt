@@ -8,6 +8,7 @@ ghost use Rattle.admittance_box.specs.Addends.{law_between};
 ghost use Rattle.admittance_box.specs.BoxMatrix.{law_rectangle};
 ghost use Rattle.admittance_box.specs.Intervals.{law_ends};
 
+use crate::group_taps::GroupIntervals;
 use crate::series::{SeriesParameters, SeriesValues, series_admittance};
 use crate::shunt::shunt_admittance;
 use complex_interval::{Enclosure, Rect};
@@ -35,13 +36,15 @@ pub struct TapProduct<E> {
     pub factor: E,
 }
 
-/// What a branch adds: nothing where its nodes are dead; no value where a number or a product of taps
-/// has no interval; else its admittance for each pair of its taps.
+/// What a branch adds: nothing where its nodes are dead, or where the first branch of its group adds for
+/// it; no value where a number or a product of taps has no interval; else its admittance for each pair of
+/// its taps, or those of its group.
 #[derive(Drop)]
 pub enum BranchIntervals<E> {
     Dead,
     Absent,
     Joined(LawIntervals<E>, Vec<TapProduct<E>>),
+    Grouped(Box<GroupIntervals<E>>),
 }
 
 impl<E: Enclosure> LawIntervals<E> {

@@ -4,8 +4,12 @@
 mod assembly;
 mod branches;
 mod copies;
+mod coupling;
+mod current;
 mod exact;
 mod fill;
+mod group_bench;
+mod group_taps;
 mod intervals;
 mod nodal_laws;
 mod node_ordering;
@@ -17,6 +21,7 @@ mod spots;
 mod taps;
 
 pub use assembly::Assembly;
+pub use coupling::{CouplingIntervals, CouplingValues};
 pub use exact::{exact_one, exact_zero};
 pub use fill::{Fill, add_pairs};
 pub use intervals::{LawIntervals, PlacedTap, TapProduct};
@@ -26,4 +31,4 @@ pub use series::{SeriesParameters, SeriesValues, series_admittance};
 pub use shunt::shunt_admittance;
 pub use skin::resistance;
 pub use spots::{pattern, zero_outside};
-pub use taps::{any_place, placed_taps, products};
+pub use taps::{any_place, find_place, placed_taps, products};

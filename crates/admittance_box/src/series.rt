@@ -59,8 +59,8 @@ impl<E: Enclosure> SeriesParameters<E> {
     }
 }
 
-// Whether both values are 0.
-fn are_zero(low: Fraction, high: Fraction) -> bool
+/// Whether both values are 0.
+pub fn are_zero(low: Fraction, high: Fraction) -> bool
     ensures { result ≡ (is_nought low && is_nought high) }
 {
     low.num == 0 && high.num == 0

@@ -1,11 +1,13 @@
 // Which entries of a network's matrix may be other than zero.
 ghost use Rattle.std.specs.Prelude.{◌≡◌, ◌≤◌, ◌++◌, IfOk, length, map};
 ghost use Rattle.network_theory.specs.Live.{Live};
-ghost use Rattle.net_branch.specs.Exact.{exact_branch, exact_network, exact_tap};
+ghost use Rattle.net_branch.specs.Exact.{exact_branch, exact_law, exact_network, exact_tap};
+ghost use Rattle.admittance_box.specs.Addends.{place_in_group};
 ghost use Rattle.net_branch.specs.Whole.{IsWholeNetwork};
-ghost use Rattle.admittance_box.specs.Pattern.{MatrixIsZeroOutside, spots_with, tap_spots, branch_spots, IsPattern, IsPatternOf};
+ghost use Rattle.admittance_box.specs.Pattern.{MatrixIsZeroOutside, spots_with, tap_spots, row_spots, group_spots, next_spots, first_spots, branch_spots, IsPattern, IsPatternOf};
 ghost use Rattle.plain_elimination.specs.declared.limits.TheConstants.{MAX_SIZE};
 
+use crate::branches::{branches_from, place_in_group};
 use crate::node_ordering::order_nodes;
 use crate::taps::find_place;
 use net_branch::{Branch, Network, NodeId, Tap, live};
@@ -48,15 +50,85 @@ fn push_tap_spots(
     Ok(())
 }
 
+// Adds the spots of a branch's taps with those of each branch of its group.
+#[tactic(auto, using(std::proofs::lemmas::List::append_assoc))]
+fn push_row_spots(
+    spots: &mut Vec<Spot>,
+    ordering: &[u32],
+    branch: &Branch,
+    a: &Branch,
+    b: &Branch,
+    c: &Branch,
+) -> Result<(), AllocError>
+    requires { length ordering.now ≤ MAX_SIZE }
+    ensures { IfOk result (λ _. spots.new.items ≡ spots.old.items ++ row_spots ordering.now (exact_branch branch.now).taps (exact_branch a.now) (exact_branch b.now) (exact_branch c.now)) }
+{
+    let taps = branch.taps.as_slice();
+    push_tap_spots(spots, ordering, taps, a.taps.as_slice())?;
+    push_tap_spots(spots, ordering, taps, b.taps.as_slice())?;
+    push_tap_spots(spots, ordering, taps, c.taps.as_slice())
+}
+
+// Adds the spots of each two branches of a group.
+#[tactic(auto, using(std::proofs::lemmas::List::append_assoc))]
+fn push_group_spots(
+    spots: &mut Vec<Spot>,
+    ordering: &[u32],
+    a: &Branch,
+    b: &Branch,
+    c: &Branch,
+) -> Result<(), AllocError>
+    requires { length ordering.now ≤ MAX_SIZE }
+    ensures { IfOk result (λ _. spots.new.items ≡ spots.old.items ++ group_spots ordering.now (exact_branch a.now) (exact_branch b.now) (exact_branch c.now)) }
+{
+    push_row_spots(spots, ordering, a, a, b, c)?;
+    push_row_spots(spots, ordering, b, a, b, c)?;
+    push_row_spots(spots, ordering, c, a, b, c)
+}
+
+// Adds the spots of the group of the branch a and the next two.
+fn push_next_spots(
+    spots: &mut Vec<Spot>,
+    ordering: &[u32],
+    a: &Branch,
+    rest: &[Branch],
+) -> Result<(), AllocError>
+    requires { length ordering.now ≤ MAX_SIZE }
+    ensures { IfOk result (λ _. spots.new.items ≡ spots.old.items ++ next_spots ordering.now (exact_branch a.now) (map exact_branch rest.now)) }
+{
+    match rest {
+        [b, c, ..] => push_group_spots(spots, ordering, a, b, c),
+        _ => Ok(()),
+    }
+}
+
+// Adds the spots of a branch, with the branches after it: a group goes as one, at its first branch.
+fn push_first_spots(
+    spots: &mut Vec<Spot>,
+    ordering: &[u32],
+    branch: &Branch,
+    rest: &[Branch],
+) -> Result<(), AllocError>
+    requires { length ordering.now ≤ MAX_SIZE }
+    ensures { IfOk result (λ _. spots.new.items ≡ spots.old.items ++ first_spots ordering.now (place_in_group (exact_law branch.now.law)) (exact_branch branch.now) (map exact_branch rest.now)) }
+{
+    let taps = branch.taps.as_slice();
+    match place_in_group(branch.law) {
+        None => push_tap_spots(spots, ordering, taps, taps),
+        Some(0) => push_next_spots(spots, ordering, branch, rest),
+        Some(_) => Ok(()),
+    }
+}
+
 // The spots of each branch.
 fn spots_of(alloc: Global, ordering: &[u32], branches: &[Branch]) -> Result<Vec<Spot>, AllocError>
     requires { length ordering.now ≤ MAX_SIZE }
     ensures { IfOk result (λ spots. spots.items ≡ branch_spots ordering.now (map exact_branch branches.now)) }
 {
     let mut spots = Vec::new(alloc);
-    for branch in branches {
-        let taps = branch.taps.as_slice();
-        push_tap_spots(&mut spots, ordering, taps, taps)?;
+    for i in 0..branches.len() {
+        let rest = branches_from(branches, i + 1);
+        push_first_spots(&mut spots, ordering, &branches[i], rest)?;
     }
     Ok(spots)
 }
@@ -78,7 +150,7 @@ pub fn pattern_of(
 }
 
 /// The pattern of the matrix of a network that is driven at a live node: the number of live nodes, and for each branch of live
-/// nodes and each two of its taps the entry in the row of the one's node and the column of the other's. Each matrix that an
+/// nodes and each two of its taps, or of its group's, the entry in the row of the one's node and the column of the other's. Each matrix that an
 /// assembly of the network, or of a pair from it on, fills is exact zero elsewhere.
 pub fn pattern(alloc: Global, network: &Network, driven: NodeId) -> Result<Pattern, AllocError>
     requires whole { IsWholeNetwork network.now }

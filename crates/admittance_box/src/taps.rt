@@ -40,8 +40,8 @@ pub fn any_place(ordering: &[u32], taps: &[Tap]) -> bool
     false
 }
 
-// A tap from `low` to `high`. None where its node has no place or its ratio no interval.
-fn placed_tap<E: Enclosure>(ordering: &[u32], low: Tap, high: Tap) -> Option<PlacedTap<E>>
+/// A tap from `low` to `high`. None where its node has no place or its ratio no interval.
+pub fn placed_tap<E: Enclosure>(ordering: &[u32], low: Tap, high: Tap) -> Option<PlacedTap<E>>
     requires few { length ordering.now ≤ MAX_SIZE }
     requires ordered { TapUpTo (exact_tap low) (exact_tap high) }
     ensures { option_map (placed_ends E.ends) result ≡ tap_between E.SCALE ordering.now (exact_tap low) (exact_tap high) }
@@ -103,7 +103,26 @@ fn push_pairs<E: Enclosure>(
     Ok(Some(()))
 }
 
-/// The pairs of taps in order, rows first. None where a product of ratios has no value.
+/// The pairs of each of these taps with each of the others in order, rows first. None where a product of
+/// ratios has no value.
+pub fn products_with<E: Enclosure>(
+    alloc: Global,
+    taps: &[PlacedTap<E>],
+    others: &[PlacedTap<E>],
+) -> Result<Option<Vec<TapProduct<E>>>, AllocError>
+    ensures { IfOk result (λ o. option_map (λ pairs. map (pair_ends E.ends) pairs.items) o
+        ≡ tap_pairs E.SCALE (map (placed_ends E.ends) taps.now) (map (placed_ends E.ends) others.now)) }
+{
+    let mut pairs = Vec::new(alloc);
+    for tap in taps {
+        if push_pairs(&mut pairs, *tap, others)?.is_none() {
+            return Ok(None);
+        }
+    }
+    Ok(Some(pairs))
+}
+
+/// The pairs of a branch's taps in order, rows first. None where a product of ratios has no value.
 pub fn products<E: Enclosure>(
     alloc: Global,
     taps: &[PlacedTap<E>],
@@ -111,11 +130,5 @@ pub fn products<E: Enclosure>(
     ensures { IfOk result (λ o. option_map (λ pairs. map (pair_ends E.ends) pairs.items) o
         ≡ tap_pairs E.SCALE (map (placed_ends E.ends) taps.now) (map (placed_ends E.ends) taps.now)) }
 {
-    let mut pairs = Vec::new(alloc);
-    for tap in taps {
-        if push_pairs(&mut pairs, *tap, taps)?.is_none() {
-            return Ok(None);
-        }
-    }
-    Ok(Some(pairs))
+    products_with(alloc, taps, taps)
 }

@@ -3,17 +3,17 @@ ghost use Rattle.std.specs.Prelude.{◌≡◌, ◌≤◌, ◌<◌, ◌^◌};
 ghost use Rattle.exact_fraction.specs.Root.{root_ceil_of};
 ghost use Rattle.complex_interval.specs.Rect.{rectangle_of};
 ghost use Rattle.complex_interval.specs.Rectangles.{low_square_sum, high_square_sum};
-ghost use Rattle.branchwise_bench.specs.Near.{near_of};
-ghost use Rattle.branchwise_bench.specs.Results.{result_of};
+ghost use Rattle.drop_bench.specs.Near.{near_of};
+ghost use Rattle.drop_bench.specs.Results.{result_of};
 ghost use Rattle.band_subdivision.specs.InverseTest.{most_within, least_above, root_floor_of};
 ghost use Rattle.band_subdivision.specs.BranchwisePart.{is_within_near, ohms_over_near};
 ghost use Rattle.band_subdivision.specs.Levels.{IsKept, levels_in};
 
 use crate::scan_levels::ScanLevels;
 use crate::size_test::{is_size_within, ohms_of_size, root_above, root_below};
-use branchwise_bench::Near;
 use branchwise_test::BranchwiseFault;
 use complex_interval::{Enclosure, Rect};
+use drop_bench::Near;
 
 /// Whether each number within the error of one that the estimate holds is at most the threshold in size.
 pub fn is_within_near<E: Enclosure>(

@@ -6,7 +6,7 @@ ghost use Rattle.network_theory.specs.Box.{Covers};
 ghost use Rattle.network_theory.specs.Live.{Live};
 ghost use Rattle.net_branch.specs.Exact.{exact_network};
 ghost use Rattle.net_branch.specs.Whole.{IsWholeNetwork};
-ghost use Rattle.admittance_box.specs.HeldMatrix.{CanAssemble, HasNoGroup};
+ghost use Rattle.admittance_box.specs.HeldMatrix.{CanAssemble};
 ghost use Rattle.admittance_box.specs.Pattern.{IsPattern};
 ghost use Rattle.band_subdivision.specs.Cover.{span_of};
 ghost use Rattle.band_subdivision.specs.PairTruth.{IsClearForEach, IsAboveForEach, IsTrueForEach};
@@ -81,8 +81,7 @@ fn scan_by<E: Enclosure>(
 }
 
 impl<E: Enclosure> Scan<E> {
-    /// The scan of each network from `low` to `high`, driven at a live node, without an extra susceptance. No branch may belong
-    /// to a group of three yet.
+    /// The scan of each network from `low` to `high`, driven at a live node, without an extra susceptance.
     pub fn between(
         alloc: Global,
         low: &Network,
@@ -93,7 +92,6 @@ impl<E: Enclosure> Scan<E> {
         requires whole_low { IsWholeNetwork low.now }
         requires whole_high { IsWholeNetwork high.now }
         requires pair { IsPair (exact_network low.now) (exact_network high.now) }
-        requires no_group { HasNoGroup (exact_network low.now) }
         requires live { Live (exact_network low.now) driven.number }
         requires spec { IsScanSpec spec }
         ensures { IfOk result (λ s. IsScanOf E.SCALE (exact_network low.now) (exact_network high.now) driven.number spec s) }
@@ -113,7 +111,6 @@ impl<E: Enclosure> Scan<E> {
         spec: ScanSpec,
     ) -> Result<Scan<E>, AllocError>
         requires whole { IsWholeNetwork network.now }
-        requires no_group { HasNoGroup (exact_network network.now) }
         requires live { Live (exact_network network.now) driven.number }
         requires spec { IsScanSpec spec }
         ensures { IfOk result (λ s. IsScanOf E.SCALE (exact_network network.now) (exact_network network.now) driven.number spec s) }

@@ -1,15 +1,15 @@
 -- What an estimate says of a threshold.
-use Rattle.std.proofs.Common.{◌≡◌, ◌+◌, ◌-◌, ◌*◌, ◌^◌, ◌≤◌, ◌<◌, ◌≤ℤ◌, ◌*ℤ◌, ℕ, suc, ℤ, pos, negsuc, Bool, true, false, Option, Some, None, nat_le, refl, sym, ap, subst, arith}
+use Rattle.std.proofs.Common.{◌≡◌, ◌+◌, ◌-◌, ◌*◌, ◌^◌, ◌≤◌, ◌≤ℤ◌, ◌*ℤ◌, ℕ, suc, ℤ, pos, negsuc, Bool, true, false, Option, Some, None, nat_le, refl, ap, subst, arith}
 use Rattle.std.specs.Prelude.{◌&&◌}
 use Rattle.std.proofs.lemmas.Int.{ints}
 use Rattle.std.proofs.lemmas.Nat.{pow_pos}
 use Rattle.std.proofs.lemmas.Bool.Decides.{nat_tests}
-use Rattle.exact_algebra.specs.Ratio.{Ratio, den, whole, times, ◌≼◌}
+use Rattle.exact_algebra.specs.Ratio.{Ratio, den, whole, ◌≼◌}
 use Rattle.exact_algebra.specs.Complex.{Complex, square_size}
-use Rattle.exact_algebra.proofs.Ratios.{ratio_parts, ratio_ring, num-times, den-times}
+use Rattle.exact_algebra.proofs.Ratios.{num-times, den-times}
 use Rattle.exact_algebra.proofs.WholeOrder.{mul-le_left}
-use Rattle.exact_fraction.specs.Scaled.{end_of, floor_scaled_of, ceil_scaled_of}
-use Rattle.complex_interval.specs.Rectangles.{Rectangle, EnclosesComplex, IsAtMostSquare, IsAtLeastSquare, low_square_sum, high_square_sum}
+use Rattle.exact_fraction.specs.Scaled.{floor_scaled_of, ceil_scaled_of}
+use Rattle.complex_interval.specs.Rectangles.{IsAtMostSquare, IsAtLeastSquare, low_square_sum, high_square_sum}
 use Rattle.complex_interval.proofs.Ranges.{floor_at_most, ceil_at_least, end_is, same_value}
 use Rattle.complex_interval.proofs.Sizes.{four, low_square_bound, high_square_bound}
 use Rattle.network_theory.specs.Order.{Order}
@@ -17,7 +17,7 @@ use Rattle.network_theory.specs.Network.{Network}
 use Rattle.network_theory.specs.Scanned.{IsClearedAt, IsPeakAt}
 use Rattle.branchwise_laws.specs.Near.{IsAtMost, IsAtLeast}
 use Rattle.branchwise_laws.specs.Wholes.{units}
-use Rattle.branchwise_laws.proofs.Wholes.{den-part, whole_answers}
+use Rattle.branchwise_laws.proofs.Wholes.{whole_answers}
 use Rattle.branchwise_test.specs.Enclosed.{Near}
 use Rattle.branchwise_test.specs.Holds.{IsNear}
 use Rattle.branchwise_test.specs.Answers.{level_below, level_above, is_clear_near, is_above_near, AnswersAreTrue}

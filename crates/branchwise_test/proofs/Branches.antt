@@ -1,6 +1,6 @@
 -- The drops of a box hold those of each network between the two, and count each of its branches.
 use Rattle.std.proofs.Common.{◌≡◌, ◌≢◌, ◌∙◌, ℕ, zero, suc, ◌+◌, ◌^◌, ◌<◌, Bool, true, false, List, [], ◌∷◌, ◌++◌, length, get_or, map, refl, sym, subst, ap, arith, pos, inl, inr}
-use Rattle.std.specs.Prelude.{Some, Contains, ◌||◌, ◌==◌, is_some, slice_get, slice_set, if◌then◌else◌}
+use Rattle.std.specs.Prelude.{Option, Some, None, Contains, ◌||◌, ◌==◌, is_some, slice_get, slice_set, if◌then◌else◌}
 use Rattle.std.specs.List.{AllZip, AllByRecursion}
 use Rattle.std.specs.Option.{option_map}
 use Rattle.std.proofs.lemmas.Bool.{eq-eqb}
@@ -15,11 +15,11 @@ use Rattle.complex_interval.specs.Rectangles.{Rectangle, EnclosesComplex}
 use Rattle.complex_interval.proofs.RectangleLaws.{add_encloses_rectangle, sub_encloses_rectangle, scale_encloses_rectangle}
 use Rattle.complex_interval.proofs.Held.{mul_encloses}
 use Rattle.network_theory.specs.Order.{Order, fraction}
-use Rattle.network_theory.specs.Branch.{Tap, Branch}
-use Rattle.network_theory.specs.Network.{Network, IsUncoupled}
-use Rattle.network_theory.specs.Between.{TapUpTo, BranchUpTo}
+use Rattle.network_theory.specs.Branch.{Tap, Law, Series, Shunt, Coupled3, Coupling, Branch}
+use Rattle.network_theory.specs.Network.{Network, IsUncoupled, HasPlace, IsGroup, IsGrouped, done, alone as uncoupled_alone, group}
+use Rattle.network_theory.specs.Between.{TapUpTo, LawUpTo, BranchUpTo}
 use Rattle.network_theory.specs.Live.{Live, HasLiveNode}
-use Rattle.network_theory.specs.Admittance.{Part, Alone, IsAdmittance, alone, IsSplit, end, one, EachLivePart}
+use Rattle.network_theory.specs.Admittance.{Part, Alone, Group, IsAdmittance, alone, IsSplit, end, one, three, EachLivePart}
 use Rattle.network_theory.specs.Nodal.{IsDistinct, ListsLive}
 use Rattle.network_theory.proofs.Numbers.{R}
 use Rattle.network_theory.proofs.Carried.{IsAmong}
@@ -27,17 +27,19 @@ use Rattle.network_theory.proofs.Bridge.{contains_among, among_contains}
 use Rattle.plain_elimination.specs.Matrix.{nought_rectangle}
 use Rattle.middle_inverse.specs.Inverse.{point_ends, middle_of, middle_point}
 use Rattle.certified_inverse.proofs.Law.{low_held}
-use Rattle.admittance_box.specs.Addends.{PlacedTap, TapPair, pair_between, pairs_with, tap_pairs, has_place}
+use Rattle.admittance_box.specs.Addends.{LawEnds, PlacedTap, TapPair, law_between, taps_between, pair_between, pairs_with, tap_pairs, has_place}
 use Rattle.admittance_box.specs.Places.{place_of}
 use Rattle.admittance_box.specs.Steps.{◌>>=◌}
 use Rattle.admittance_box.proofs.HeldEntries.{some_suc}
-use Rattle.admittance_box.proofs.HeldMatrices.{law_held, place-among, uncoupled_up, nought_held}
+use Rattle.admittance_box.proofs.HeldMatrices.{law_held}
 use Rattle.admittance_box.proofs.HeldPairs.{HoldsTap, taps_hold, along, scaled-is}
+use Rattle.admittance_box.proofs.Laws.{nought_held}
+use Rattle.admittance_box.proofs.LivePlaces.{place-among}
 use Rattle.admittance_box.proofs.Ranges.{one_encloses}
 use Rattle.admittance_box.proofs.Steps.{bind-some}
 use Rattle.branchwise_laws.specs.Link.{Link, admittance, AtLive}
 use Rattle.branchwise_laws.specs.Reach.{at_node}
-use Rattle.branchwise_laws.specs.Pairs.{Pair, pair, itself, IsPaired, end as no_pairs, alone as alone_pair, IsDead, Raises, AddsNothing, Count, dead, own, at_its_node}
+use Rattle.branchwise_laws.specs.Pairs.{Pair, pair, itself, nine_pairs, IsPaired, end as no_pairs, alone as alone_pair, group as group_pairs, IsDead, Raises, AddsNothing, Count, dead, own, at_its_node}
 use Rattle.branchwise_laws.specs.Places.{NodesFirst}
 use Rattle.branchwise_laws.specs.Bounds.{EachAt}
 use Rattle.branchwise_laws.proofs.Each.{each_map}
@@ -49,6 +51,14 @@ open complex_field use {same, back, next}
 
 same_value : {X : Type 0} (a b : X) → Some a ≡ Some b → a ≡ b
 same_value a b e = cc
+
+-- a coupled branch has no law of its own
+no_law_between : (s : ℕ) (place : ℕ) (c : Coupling) (l u : Law) → LawUpTo l (Coupled3 place c) → law_between s l u ≡ None
+no_law_between s place c (Series r k m x xc) u p = absurd p
+no_law_between s place c (Shunt b) u p = absurd p
+no_law_between s place c (Coupled3 q d) (Series r k m x xc) p = refl
+no_law_between s place c (Coupled3 q d) (Shunt b) p = refl
+no_law_between s place c (Coupled3 q d) (Coupled3 q' d') p = refl
 
 -- two taps or more have two pairs or more
 two_pairs : (s : ℕ) (t u : PlacedTap) (taps : List PlacedTap) (pairs : List TapPair) → tap_pairs s (t ∷ u ∷ taps) (t ∷ u ∷ taps) ≡ Some pairs → (p : TapPair) × (q : TapPair) × (more : List TapPair) × (pairs ≡ p ∷ q ∷ more)
@@ -328,6 +338,15 @@ module _ (s : ℕ) (ordering : List ℕ) (network : Network) (listed : ListsLive
       right_false true b e = absurd cc
       right_false false b e = e
 
+  -- a branch of dead taps has no live node
+  none_live : (b : Branch) → IsDead network b.taps → HasLiveNode network b → ⊥
+  none_live b d v = at b.taps d v.has.0 v.has.1 v.has.2
+    where
+      at : (ts : List Tap) → IsDead network ts → (i : ℕ) → i < length ts → get_or ts i v.tap ≡ v.tap → ⊥
+      at [] d i l e = absurd (omega arith)
+      at (o ∷ ts) d zero l e = d.0 (subst (λ (x : Tap). Live network x.node) (sym e) v.live)
+      at (o ∷ ts) d (suc i) l e = at ts d.1 i (omega arith) e
+
   module _ (ends : Ends) (h : Order) (ho : Encloses s ends (fraction h)) where
     record LiveStep (b : Branch) (ps : List Pair) (after : List DropEnds) : Type 0 where
       y : Complex
@@ -375,10 +394,10 @@ module _ (s : ℕ) (ordering : List ℕ) (network : Network) (listed : ListsLive
         at (suc j) l e = absurd (omega arith)
 
     -- one branch before others
-    one_more : (l b : Branch) (bs : List Branch) (ps : List Pair) (final : List DropEnds) (y : Complex) → BranchUpTo l b → IsUncoupled l → (HasLiveNode network b → IsAdmittance h b.law y) → HeldDrops bs (ps ++ pair b b y ∷ []) final → HeldDrops (b ∷ bs) ps final
-    one_more l b bs ps final y p u admitted more = record {
+    one_more : (b : Branch) (bs : List Branch) (ps : List Pair) (final : List DropEnds) (y : Complex) → IsUncoupled b → (HasLiveNode network b → IsAdmittance h b.law y) → HeldDrops bs (ps ++ pair b b y ∷ []) final → HeldDrops (b ∷ bs) ps final
+    one_more b bs ps final y u admitted more = record {
       parts = Alone b y ∷ more.parts;
-      split = one b y bs more.parts (uncoupled_up l b p u) more.split;
+      split = one b y bs more.parts u more.split;
       live = (λ o k v. alone b y (admitted (subst (HasLiveNode network) (sym (only b o k)) v)), more.live);
       pairs = pair b b y ∷ more.pairs;
       paired = alone_pair b y more.parts more.pairs more.paired;
@@ -388,18 +407,59 @@ module _ (s : ℕ) (ordering : List ℕ) (network : Network) (listed : ListsLive
       first = more.first;
     }
 
-    pub branches_held : (ls hs bs : List Branch) → AllZip BranchUpTo ls bs → AllZip BranchUpTo bs hs → AllByRecursion IsUncoupled ls → (branches : List LiveBranch) → live_branches s ordering ls hs ≡ Some branches
+    -- a group of dead branches before others
+    group_more : (a b c : Branch) (bs : List Branch) (ps : List Pair) (final : List DropEnds) → IsGroup a b c → AllByRecursion (λ o. o.group ≢ a.group) bs → IsDead network a.taps → IsDead network b.taps → IsDead network c.taps → HeldDrops bs ps final → HeldDrops (a ∷ b ∷ c ∷ bs) ps final
+    group_more a b c bs ps final g apart da db dc more = record {
+      parts = Group a b c Y ∷ more.parts;
+      split = three a b c Y bs more.parts g apart more.split;
+      live = (λ o k v. absurd (no_live o k v), more.live);
+      pairs = nine_pairs a b c Y ++ more.pairs;
+      paired = group_pairs a b c Y more.parts more.pairs more.paired;
+      links = more.links;
+      count = add a a da _ (add a b da _ (add a c da _ (add b a db _ (add b b db _ (add b c db _ (add c a dc _ (add c b dc _ (add c c dc _ more.count))))))));
+      held = more.held;
+      first = more.first;
+    }
+      where
+        Y : ℕ → ℕ → Complex
+        Y p q = nought
+
+        add : (v w : Branch) → IsDead network v.taps → (qs : List Pair) → Count network (ps ++ qs) more.links → Count network (ps ++ pair v w nought ∷ qs) more.links
+        add v w d qs k = dead ps (pair v w nought) qs more.links (inl d) k
+
+        no_live : (o : Branch) → Contains (a ∷ b ∷ c ∷ []) o → HasLiveNode network o → ⊥
+        no_live o k = at k.0 k.1 k.2
+          where
+            at : (j : ℕ) → j < 3 → get_or (a ∷ b ∷ c ∷ []) j o ≡ o → HasLiveNode network o → ⊥
+            at zero l e v = none_live a da (subst (HasLiveNode network) (sym e) v)
+            at (suc zero) l e v = none_live b db (subst (HasLiveNode network) (sym e) v)
+            at (suc (suc zero)) l e v = none_live c dc (subst (HasLiveNode network) (sym e) v)
+            at (suc (suc (suc j))) l e v = absurd (omega arith)
+
+    -- a coupled branch with a live node leaves no live branches
+    coupled_dead : (l c b : Branch) (place : ℕ) → BranchUpTo l b → HasPlace b place → (rest : Option (List LiveBranch)) (branches : List LiveBranch)
+        → (if has_place ordering l.taps then live_branch s ordering l c >>= (λ o. rest >>= (λ os. Some (o ∷ os))) else rest) ≡ Some branches → IsDead network b.taps × (rest ≡ Some branches)
+    coupled_dead l c b place p has rest branches e = go (has_place ordering l.taps) refl (law_between s l.law c.law) (no_law_between s place has.values l.law c.law (subst (LawUpTo l.law) has.law p.law)) e
+      where
+        go : (t : Bool) → has_place ordering l.taps ≡ t → (law : Option LawEnds) → law ≡ None
+            → (if t then (law >>= (λ x. taps_between s ordering l.taps c.taps >>= (λ taps. tap_pairs s taps taps >>= (λ pairs. Some (record { law = x; taps = taps; pairs = pairs }))))) >>= (λ o. rest >>= (λ os. Some (o ∷ os))) else rest) ≡ Some branches
+            → IsDead network b.taps × (rest ≡ Some branches)
+        go true k (Some law) n m = absurd cc
+        go true k None n m = absurd cc
+        go false k law n m = (all_dead l.taps b.taps p.taps k, m)
+
+    pub branches_held : (ls hs bs : List Branch) → AllZip BranchUpTo ls bs → AllZip BranchUpTo bs hs → IsGrouped bs → (branches : List LiveBranch) → live_branches s ordering ls hs ≡ Some branches
         → (drops final : List DropEnds) → with_branches s ends branches drops ≡ Some final → (ps : List Pair) (links : List Link) → Count network ps links → HoldDrops drops links → NodesFirst ordering links → HeldDrops bs ps final
-    branches_held [] hs [] p q u branches e drops final w ps links count held first =
+    branches_held [] hs L p q done branches e drops final w ps links count held first =
         let none_left : [] ≡ branches = cc in
         let w' : with_branches s ends [] drops ≡ Some final = subst (λ l. with_branches s ends l drops ≡ Some final) (sym none_left) w in
         let is : drops ≡ final = cc in
         record { parts = []; split = end; live = tt; pairs = []; paired = no_pairs; links = links; count = count_end ps links count; held = subst (λ l. HoldDrops l links) is held; first = first }
-    branches_held [] hs (b ∷ bs) p q u branches e drops final w ps links count held first = absurd p
-    branches_held (l ∷ ls) hs [] p q u branches e drops final w ps links count held first = absurd p
-    branches_held (l ∷ ls) [] (b ∷ bs) p q u branches e drops final w ps links count held first = absurd q
-    branches_held (l ∷ ls) (c ∷ hs) (b ∷ bs) p q u branches e drops final w ps links count held first =
-        go (has_place ordering l.taps) refl e (λ branches' e' drops' w' ps' links' count' held' first'. branches_held ls hs bs p.1 q.1 u.1 branches' e' drops' final w' ps' links' count' held' first')
+    branches_held (l ∷ ls) hs L p q done branches e drops final w ps links count held first = absurd p
+    branches_held [] hs L p q (uncoupled_alone b bs u rest) branches e drops final w ps links count held first = absurd p
+    branches_held (l ∷ ls) [] L p q (uncoupled_alone b bs u rest) branches e drops final w ps links count held first = absurd q
+    branches_held (l ∷ ls) (c ∷ hs) L p q (uncoupled_alone b bs u rest) branches e drops final w ps links count held first =
+        go (has_place ordering l.taps) refl e (λ branches' e' drops' w' ps' links' count' held' first'. branches_held ls hs bs p.1 q.1 rest branches' e' drops' final w' ps' links' count' held' first')
       where
         go : (t : Bool) → has_place ordering l.taps ≡ t
             → (if t then live_branch s ordering l c >>= (λ o. live_branches s ordering ls hs >>= (λ os. Some (o ∷ os))) else live_branches s ordering ls hs) ≡ Some branches
@@ -412,13 +472,19 @@ module _ (s : ℕ) (ordering : List ℕ) (network : Network) (listed : ListsLive
             let w' : with_branches s ends (lb ∷ rest) drops ≡ Some final = subst (λ l. with_branches s ends l drops ≡ Some final) (sym is) w in
             let (mid, w1, w2) = bind-some _ _ final w' in
             let here = live_step l c b p.0 q.0 lb e1 drops mid w1 ps links count held first in
-            one_more l b bs ps final here.y p.0 u.0 (λ v. here.admitted) (more rest e2 mid w2 (ps ++ pair b b here.y ∷ []) here.more.links here.more.count here.more.held here.more.first)
+            one_more b bs ps final here.y u (λ v. here.admitted) (more rest e2 mid w2 (ps ++ pair b b here.y ∷ []) here.more.links here.more.count here.more.held here.more.first)
         go false k m more =
             let dead_taps = all_dead l.taps b.taps p.0.taps k in
             let here = dead_counted ps (pair b b nought) drops links dead_taps count held first in
-            one_more l b bs ps final nought p.0 u.0 (λ v. absurd (none_at b.taps dead_taps v.tap v.has.0 v.has.1 v.has.2 v.live)) (more branches m drops w (ps ++ pair b b nought ∷ []) here.links here.count here.held here.first)
-          where
-            none_at : (ts : List Tap) → IsDead network ts → (t : Tap) → (i : ℕ) → i < length ts → get_or ts i t ≡ t → ¬ Live network t.node
-            none_at [] d t i l e = absurd (omega arith)
-            none_at (o ∷ ts) d t zero l e = let is : o ≡ t = e in subst (λ (x : Tap). ¬ Live network x.node) is d.0
-            none_at (o ∷ ts) d t (suc i) l e = none_at ts d.1 t i (omega arith) e
+            one_more b bs ps final nought u (λ v. absurd (none_live b dead_taps v)) (more branches m drops w (ps ++ pair b b nought ∷ []) here.links here.count here.held here.first)
+    branches_held [] hs L p q (group a b c bs g apart rest) branches e drops final w ps links count held first = absurd p
+    branches_held (la ∷ []) hs L p q (group a b c bs g apart rest) branches e drops final w ps links count held first = absurd p.1
+    branches_held (la ∷ lb ∷ []) hs L p q (group a b c bs g apart rest) branches e drops final w ps links count held first = absurd p.1.1
+    branches_held (la ∷ lb ∷ lc ∷ ls) [] L p q (group a b c bs g apart rest) branches e drops final w ps links count held first = absurd q
+    branches_held (la ∷ lb ∷ lc ∷ ls) (ua ∷ []) L p q (group a b c bs g apart rest) branches e drops final w ps links count held first = absurd q.1
+    branches_held (la ∷ lb ∷ lc ∷ ls) (ua ∷ ub ∷ []) L p q (group a b c bs g apart rest) branches e drops final w ps links count held first = absurd q.1.1
+    branches_held (la ∷ lb ∷ lc ∷ ls) (ua ∷ ub ∷ uc ∷ hs) L p q (group a b c bs g apart rest) branches e drops final w ps links count held first =
+        let (da, ea) = coupled_dead la ua a 0 p.0 g.first (live_branches s ordering (lb ∷ lc ∷ ls) (ub ∷ uc ∷ hs)) branches e in
+        let (db, eb) = coupled_dead lb ub b 1 p.1.0 g.second (live_branches s ordering (lc ∷ ls) (uc ∷ hs)) branches ea in
+        let (dc, ec) = coupled_dead lc uc c 2 p.1.1.0 g.third (live_branches s ordering ls hs) branches eb in
+        group_more a b c bs ps final g apart da db dc (branches_held ls hs bs p.1.1.1 q.1.1.1 rest branches ec drops final w ps links count held first)

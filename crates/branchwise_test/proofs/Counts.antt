@@ -14,7 +14,6 @@ use Rattle.certified_inverse.specs.Certificate.{in_size, ceil_over}
 use Rattle.certified_inverse.proofs.Raw.{ceil_over-enough}
 use Rattle.admittance_box.specs.Addends.{PlacedTap}
 use Rattle.admittance_box.specs.Places.{place_of}
-use Rattle.admittance_box.specs.Steps.{◌>>=◌}
 use Rattle.admittance_box.proofs.HeldEntries.{some_suc}
 use Rattle.admittance_box.proofs.HeldPairs.{HoldsTap}
 use Rattle.admittance_box.proofs.Steps.{bind-some}

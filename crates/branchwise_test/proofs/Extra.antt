@@ -1,28 +1,27 @@
 -- An estimate over a box holds with an extra susceptance at the driven node.
-use Rattle.std.proofs.Common.{◌≡◌, ◌∙◌, ℕ, zero, suc, ◌+◌, ◌-◌, ◌<◌, Bool, true, false, List, [], ◌∷◌, ◌++◌, length, refl, sym, subst, ap, arith, pos, Option, Some, None, Result, Ok}
-use Rattle.std.specs.Prelude.{int_lt, is_some, ◌||◌, if◌then◌else◌}
+use Rattle.std.proofs.Common.{◌≡◌, ◌≢◌, ◌∙◌, ℕ, ◌-◌, ◌<◌, Bool, true, false, List, [], ◌∷◌, ◌++◌, length, refl, sym, subst, ap, arith, pos, Option, Some, None, Ok}
+use Rattle.std.specs.Prelude.{int_lt, if◌then◌else◌}
 use Rattle.std.specs.List.{AllZip, AllByRecursion}
 use Rattle.std.specs.Option.{option_map}
 use Rattle.exact_algebra.specs.Ratio.{Ratio, whole}
 use Rattle.complex_interval.specs.Ends.{Ends, range_ends}
 use Rattle.network_theory.specs.Branch.{Branch}
-use Rattle.network_theory.specs.Network.{Network, IsUncoupled, IsGrouped, done, alone, IsWhole}
+use Rattle.network_theory.specs.Network.{Network, IsUncoupled, IsGrouped, done, alone, group}
 use Rattle.network_theory.specs.Between.{BranchUpTo, IsPair, LiesBetween}
 use Rattle.network_theory.specs.Extra.{shunt_at, with_shunt}
 use Rattle.network_theory.proofs.Extra as E
 use Rattle.network_theory.proofs.More.{up_to}
 use Rattle.network_theory.proofs.Phases.{live_is_node}
-use Rattle.admittance_box.specs.Addends.{LawEnds, OfShunt, PlacedTap, tap_pairs, has_place}
+use Rattle.admittance_box.specs.Addends.{OfShunt, tap_pairs, has_place}
 use Rattle.admittance_box.specs.HeldMatrix.{CanAssemble}
 use Rattle.admittance_box.specs.Orders.{order_ends}
 use Rattle.admittance_box.specs.Places.{place_of}
 use Rattle.admittance_box.specs.Steps.{◌>>=◌}
-use Rattle.admittance_box.proofs.HeldMatrices.{uncoupled_up}
 use Rattle.admittance_box.proofs.LivePairs.{live_up}
 use Rattle.admittance_box.proofs.NodeOrderings.{is_last, lists_live, order_along}
 use Rattle.admittance_box.proofs.Steps.{bind-some}
 use Rattle.branchwise_test.specs.Drops.{DropEnds, LiveBranch, node_drops, live_branch, live_branches, extra_branch}
-use Rattle.branchwise_test.specs.Enclosed.{valued, Near, near_of, impedance_near_with}
+use Rattle.branchwise_test.specs.Enclosed.{near_of, impedance_near_with}
 use Rattle.branchwise_test.specs.Holds.{IsNear, ImpedanceIsNear}
 use Rattle.branchwise_test.proofs.Zips.{zip_end, each_at}
 use Rattle.branchwise_test.proofs.Branches.{places_are}
@@ -32,16 +31,12 @@ all_end : {X : Type 0} (P : X → Type 0) (xs : List X) (x : X) → AllByRecursi
 all_end P [] x a p = (p, tt)
 all_end P (y ∷ xs) x a p = (a.0, all_end P xs x a.1 p)
 
--- uncoupled branches are grouped
-grouped : (bs : List Branch) → AllByRecursion IsUncoupled bs → IsGrouped bs
-grouped [] u = done
-grouped (b ∷ bs) u = alone b bs u.0 (grouped bs u.1)
-
-uncoupled_pair : (ls bs : List Branch) → AllZip BranchUpTo ls bs → AllByRecursion IsUncoupled ls → AllByRecursion IsUncoupled bs
-uncoupled_pair [] [] z u = tt
-uncoupled_pair [] (b ∷ bs) z u = absurd z
-uncoupled_pair (l ∷ ls) [] z u = absurd z
-uncoupled_pair (l ∷ ls) (b ∷ bs) z u = (uncoupled_up l b z.0 u.0, uncoupled_pair ls bs z.1 u.1)
+-- with one more uncoupled branch they are grouped still
+grouped_end : (bs : List Branch) (x : Branch) → IsUncoupled x → x.group ≡ 0 → IsGrouped bs → IsGrouped (bs ++ x ∷ [])
+grouped_end L x u z done = alone x [] u done
+grouped_end L x u z (alone b bs v more) = alone b (bs ++ x ∷ []) v (grouped_end bs x u z more)
+grouped_end L x u z (group a b c bs g apart more) =
+    group a b c (bs ++ x ∷ []) g (all_end (λ o. o.group ≢ a.group) bs x apart (λ e. g.number (sym e ∙ z))) (grouped_end bs x u z more)
 
 -- ---- a pair with the shunt
 module _ (driven : ℕ) (e : Ratio) where
@@ -58,7 +53,6 @@ module _ (driven : ℕ) (e : Ratio) where
   can_shunted low high ordering can =
       record {
         pair = pair_shunted low high can.pair;
-        no_group = all_end IsUncoupled low.branches (shunt_at driven e) can.no_group refl;
         driven_is_live = E.live_up low driven e driven can.driven_is_live;
         ordered = record {
           live = can.ordered.live;
@@ -73,7 +67,7 @@ module _ (driven : ℕ) (e : Ratio) where
         whole = record {
           buses = between.whole.buses;
           taps = all_end (λ (b : Branch). AllByRecursion (λ t. t.node < network.nodes) b.taps) network.branches (shunt_at driven e) between.whole.taps (live_is_node network between.whole driven (live_up low network between.from_low driven can.driven_is_live), tt);
-          groups = grouped (network.branches ++ shunt_at driven e ∷ []) (all_end IsUncoupled network.branches (shunt_at driven e) (uncoupled_pair low.branches network.branches between.from_low.branches can.no_group) refl);
+          groups = grouped_end network.branches (shunt_at driven e) refl refl between.whole.groups;
         };
         from_low = pair_shunted low network between.from_low;
         to_high = pair_shunted network high between.to_high;

@@ -35,7 +35,7 @@ use Rattle.admittance_box.specs.HeldMatrix.{CanAssemble}
 use Rattle.admittance_box.specs.Orders.{order_ends}
 use Rattle.admittance_box.specs.Places.{place_of}
 use Rattle.admittance_box.proofs.HeldEntries.{item_at, entries_same}
-use Rattle.admittance_box.proofs.HeldMatrices.{nought_held}
+use Rattle.admittance_box.proofs.Laws.{nought_held}
 use Rattle.admittance_box.proofs.HeldPairs.{Held, held_along, HoldsTap, along}
 use Rattle.admittance_box.proofs.LivePairs.{live_up, zip_back}
 use Rattle.admittance_box.proofs.NodeOrderings.{is_last, lists_live, order_along}
@@ -314,7 +314,7 @@ live_near s low high driven ordering can lo hi near nodes e0 branches e1 n1 h is
     let (cs, e4, n4) = inverse-ok (middle_inverse s ps) drops ps n3 in
     let (n, last) = is_last low driven ordering can.ordered in
     let here : length ordering - 1 ≡ n = let q = last.count in omega (arith, q) in
-    let found = branches_held s ordering network listed (order_ends s lo hi) h (order_encloses s lo hi h is_order lies) low.branches high.branches network.branches between.from_low.branches between.to_high.branches can.no_group
+    let found = branches_held s ordering network listed (order_ends s lo hi) h (order_encloses s lo hi h is_order lies) low.branches high.branches network.branches between.from_low.branches between.to_high.branches between.whole.groups
     branches e1 nodes drops e2 [] (map (node_link s ordering network listed) ordering) start_count (start_held nodes e0) (nodes_first s ordering network listed ordering) in
     let linked : IsLinked network h found.parts ordering found.links = record {
       admitted = split_admittances network h found.parts found.split found.live;

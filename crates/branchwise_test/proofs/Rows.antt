@@ -21,7 +21,7 @@ use Rattle.certified_inverse.proofs.Rows.{and_then-some, add_times-holds}
 use Rattle.certified_inverse.proofs.Law.{low_held}
 use Rattle.admittance_box.specs.Addends.{PlacedTap}
 use Rattle.admittance_box.proofs.HeldEntries.{AtNodes, item_at}
-use Rattle.admittance_box.proofs.HeldMatrices.{nought_held}
+use Rattle.admittance_box.proofs.Laws.{nought_held}
 use Rattle.admittance_box.proofs.HeldPairs.{Held, HoldsTap, along, scaled-is, plus-none}
 use Rattle.admittance_box.proofs.LivePairs.{zip_map}
 use Rattle.admittance_box.proofs.Ranges.{zero_encloses, one_encloses}

@@ -1,7 +1,6 @@
 -- Networks of one and of two nodes at scale 40 and order 1, worked by hand.
 use Rattle.std.specs.Prelude.{◌≡◌, ℕ, ℤ, pos, negsuc, true, ◌*ℤ◌, List, [], ◌∷◌, Option, Some, Result, Ok, Err}
 use Rattle.complex_interval.specs.Ends.{Ends}
-use Rattle.complex_interval.specs.Rectangles.{Rectangle}
 use Rattle.admittance_box.specs.Addends.{LawEnds, OfSeries, OfShunt, PlacedTap, tap_pairs}
 use Rattle.admittance_box.specs.Exact.{zero_ends, one_ends}
 use Rattle.admittance_box.specs.Orders.{order_ends}

@@ -1,14 +1,10 @@
 use Rattle.std.proofs.Common.{sym, subst}
 use Rattle.net_branch.specs.Exact.{exact_network}
-use Rattle.admittance_box.specs.HeldMatrix.{HasNoGroup}
 use Rattle.band_subdivision.specs.Scan.{IsScanOf}
 use Rattle.band_subdivision.specs.ScanSpec.{IsScanSpec}
 use Rattle.band_subdivision.specs.declared.scan_spec.ScanSpec.{ScanSpec}
 use Rattle.harmscan_core.proofs.StudyFacts.{spec_in_range, can_scan, walk_boxes}
 use Rattle.harmscan_core.proofs.scan.walk_of.Goals as goal
-
-pub new-requires-clause-no_group : goal.new-requires-clause-no_group
-new-requires-clause-no_group g c = subst HasNoGroup (sym c.requires.network.exact) c.requires.network.uncoupled
 
 pub new-requires-clause-spec : goal.new-requires-clause-spec
 new-requires-clause-spec g c = subst IsScanSpec (sym c.spec_of.ensures) (spec_in_range c.args.study.now c.args.scan.now c.requires.study.lawful c.requires.scan)

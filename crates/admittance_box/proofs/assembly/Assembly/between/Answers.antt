@@ -17,7 +17,7 @@ invariant_of-result g c =
     let high = c.args.high.now in
     let driven = c.args.driven.number in
     let ordering = c.in_ok-ordering.ordering.items in
-    let can = ready_by low high driven c.in_ok-marks.marks.items c.as_slice.result.now ordering c.requires.whole_low c.requires.pair c.requires.no_group c.requires.live c.in_ok-marks.ensures c.as_slice.ensures.value c.in_ok-ordering.ensures in
+    let can = ready_by low high driven c.in_ok-marks.marks.items c.as_slice.result.now ordering c.requires.whole_low c.requires.pair c.requires.live c.in_ok-marks.ensures c.as_slice.ensures.value c.in_ok-ordering.ensures in
     kept_by g.E.Enclosure.SCALE low high c.in_ok-copy_of.field-0 c.in_ok-copy_of-2.field-0 driven ordering c.as_slice-2.result.now c.as_slice-low_branches.result.now c.as_slice-high_branches.result.now
     (map (addend_of g.E.Enclosure.ends) c.in_ok-branches.branches.items) c.in_ok-copy_of.ensures c.in_ok-copy_of-2.ensures c.as_slice-2.ensures.value c.as_slice-low_branches.ensures c.as_slice-high_branches.ensures
     c.requires.whole_low can c.in_ok-branches.ensures
@@ -28,5 +28,5 @@ returns g c =
     let high = c.args.high.now in
     let driven = c.args.driven.number in
     let ordering = c.in_ok-ordering.ordering.items in
-    let can = ready_by low high driven c.in_ok-marks.marks.items c.as_slice.result.now ordering c.requires.whole_low c.requires.pair c.requires.no_group c.requires.live c.in_ok-marks.ensures c.as_slice.ensures.value c.in_ok-ordering.ensures in
+    let can = ready_by low high driven c.in_ok-marks.marks.items c.as_slice.result.now ordering c.requires.whole_low c.requires.pair c.requires.live c.in_ok-marks.ensures c.as_slice.ensures.value c.in_ok-ordering.ensures in
     made_by low high c.in_ok-copy_of.field-0 c.in_ok-copy_of-2.field-0 driven ordering c.in_ok-copy_of.ensures c.in_ok-copy_of-2.ensures can

@@ -1,8 +1,8 @@
 use Rattle.std.proofs.Common.{◌∙◌, sym}
 use Rattle.std.specs.Option.{option_map}
 use Rattle.complex_interval.specs.Rect.{rectangle_of}
-use Rattle.branchwise_bench.specs.Near.{near_of}
-use Rattle.branchwise_bench.specs.Results.{result_of}
+use Rattle.drop_bench.specs.Near.{near_of}
+use Rattle.drop_bench.specs.Results.{result_of}
 use Rattle.exact_fraction.specs.Fraction.{ratio_of}
 use Rattle.band_subdivision.specs.Levels.{levels_in}
 use Rattle.band_subdivision.specs.ScanSpec.{asked_of}
