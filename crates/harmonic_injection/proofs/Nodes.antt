@@ -7,10 +7,11 @@ use Rattle.network_theory.specs.Live.{Live}
 use Rattle.study_model.specs.declared.words.StudyModel.{StudyModel}
 use Rattle.study_model.specs.declared.words.StudyModel.TheVariants as study_model
 use Rattle.study_model.specs.declared.records.Study.{Study}
+use Rattle.node_injection.specs.Injected.{ExactInjection}
 use Rattle.sequence_network.specs.Networks.{network_of}
 use Rattle.spectrum_reader.specs.Lawful.{IsLawfulSpectrum}
 use Rattle.spectrum_reader.specs.declared.injection.Injection.{Injection}
-use Rattle.harmonic_injection.specs.Injections.{AreInStudy, ExactInjection, injection_of, injections_of, node_of}
+use Rattle.harmonic_injection.specs.Injections.{AreInStudy, injection_of, injections_of, node_of}
 use Rattle.harmonic_injection.specs.Paths.{HasPath, sequence_of_order}
 
 pub in_study : (study : Study) (rows : List Injection) → IsLawfulSpectrum study rows → AreInStudy study rows

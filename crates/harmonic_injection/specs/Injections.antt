@@ -2,7 +2,7 @@
 use Rattle.std.specs.Prelude.{ℕ, ℤ, ◌+◌, ◌*◌, ◌*ℤ◌, ◌^◌, ◌≤◌, nat_eq, unsigned_abs, List, map, length, All}
 use Rattle.std.specs.List.{filter}
 use Rattle.exact_algebra.specs.Ratio.{Ratio, over}
-use Rattle.exact_fraction.specs.Fraction.{ratio_of}
+use Rattle.node_injection.specs.Injected.{ExactInjection}
 use Rattle.study_model.specs.Lawful.{IsBus}
 use Rattle.study_model.specs.Voltages.{kv_of}
 use Rattle.study_model.specs.declared.words.StudyModel.{StudyModel}
@@ -11,17 +11,6 @@ use Rattle.study_model.specs.declared.records.Study.{Study}
 use Rattle.spectrum_reader.specs.Lawful.{IsPhaseOf}
 use Rattle.spectrum_reader.specs.declared.injection.Injection.{Injection}
 use Rattle.spectrum_reader.specs.declared.injection.TheConstants.{MAX_INJECTIONS}
-use Rattle.harmonic_injection.specs.declared.node.NodeInjection.{NodeInjection}
-
--- A current into a node, in per unit, as exact fractions.
-pub record ExactInjection : Type 0 where
-  pub node : ℕ
-  pub re : Ratio
-  pub im : Ratio
-
--- the current that an injection at a node is
-abbrev pub exact_injection : NodeInjection → ExactInjection
-exact_injection at = record { node = at.node.number; re = ratio_of at.re; im = ratio_of at.im }
 
 -- the node of a bus, or of a phase of a bus
 unfoldable pub node_of : StudyModel → ℕ → ℕ → ℕ

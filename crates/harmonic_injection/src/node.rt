@@ -3,25 +3,19 @@ ghost use Rattle.std.specs.Prelude.{◌≡◌, ◌≤◌, ◌<◌, ◌≤ℤ◌,
 ghost use Rattle.exact_fraction.specs.Fraction.{ratio_of};
 ghost use Rattle.study_model.specs.Lawful.{IsLawful, IsBus};
 ghost use Rattle.spectrum_reader.specs.Lawful.{IsPhaseOf};
-ghost use Rattle.harmonic_injection.specs.Injections.{AreInStudy, current_per_unit, exact_injection, injection_of, injections_of, node_of};
+ghost use Rattle.node_injection.specs.Injected.{exact_injection};
+ghost use Rattle.harmonic_injection.specs.Injections.{AreInStudy, current_per_unit, injection_of, injections_of, node_of};
 ghost use Rattle.study_model.specs.declared.limits.TheConstants.{MAX_BUSES};
 
 use element_parts::{kv, product, scaled, small};
 use exact_fraction::Fraction;
 use fixed_decimal::Decimal;
 use net_branch::NodeId;
+use node_injection::NodeInjection;
 use spectrum_reader::{Injection, Spectrum};
 use sqlite_items::Items;
 use std::alloc::{AllocError, Global};
 use study_model::{Study, StudyModel};
-
-/// A current into a node, in per unit: its real and its imaginary part.
-#[derive(Clone, Copy)]
-pub struct NodeInjection {
-    pub node: NodeId,
-    pub re: Fraction,
-    pub im: Fraction,
-}
 
 /// The node of a bus in the sequence model, and of a phase of a bus in the phases model.
 #[tactic(auto, unfolding(crate::specs::Injections::node_of))]

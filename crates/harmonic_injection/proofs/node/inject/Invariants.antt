@@ -1,5 +1,6 @@
 use Rattle.std.proofs.Common.{◌≡◌, ◌++◌, drop, map}
-use Rattle.harmonic_injection.specs.Injections.{exact_injection, injections_of}
+use Rattle.node_injection.specs.Injected.{exact_injection}
+use Rattle.harmonic_injection.specs.Injections.{injections_of}
 use Rattle.harmonic_injection.proofs.node.inject.Given as goal
 
 abbrev pub invariant-loop-row : goal.invariant-loop-row

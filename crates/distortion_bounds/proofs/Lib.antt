@@ -1,0 +1,10 @@
+pub mod Distortions
+pub mod Filling
+pub mod Orders
+pub mod Products
+pub mod RightSides
+pub mod RootBounds
+pub mod Roots
+pub mod SolvedStates
+pub mod Solvers
+pub mod Sums
