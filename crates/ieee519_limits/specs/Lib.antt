@@ -1,3 +1,5 @@
 pub mod VoltageLimits
 pub mod CurrentLimits
 pub mod Verdicts
+pub mod ExactVerdicts
+pub mod Levels

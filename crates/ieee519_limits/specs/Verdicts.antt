@@ -1,5 +1,5 @@
 -- What a verdict says of a value between two bounds.
-use Rattle.std.specs.Prelude.{◌≡◌, ℕ, ◌*◌, ◌≤◌, ◌<◌, Option, Some, None}
+use Rattle.std.specs.Prelude.{◌≡◌, ℕ, ◌*◌, ◌≤◌, ◌<◌, nat_le, if◌then◌else◌, Option, Some, None}
 use Rattle.ieee519_limits.specs.declared.bounds.PercentBounds.{PercentBounds}
 use Rattle.ieee519_limits.specs.declared.bounds.Verdict.{Verdict}
 use Rattle.ieee519_limits.specs.declared.bounds.Verdict.TheVariants.{Pass, Fail, Undecided}
@@ -15,6 +15,11 @@ IsVerdict None limit v = v ≡ Undecided
 IsVerdict (Some b) limit Pass = b.hi ≤ limit
 IsVerdict (Some b) limit Fail = limit < b.lo
 IsVerdict (Some b) limit Undecided = (b.lo ≤ limit) × (limit < b.hi)
+
+-- the verdict, as a function
+unfoldable pub verdict_of : Option PercentBounds → ℕ → Verdict
+verdict_of None limit = Undecided
+verdict_of (Some b) limit = if nat_le b.hi limit then Pass else (if nat_le b.lo limit then Undecided else Fail)
 
 -- n/d lies between the bounds
 abbrev pub IsBetween : Option PercentBounds → ℕ → ℕ → Type 0

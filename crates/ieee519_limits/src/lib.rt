@@ -9,5 +9,5 @@ mod voltage;
 
 pub use bounds::{PercentBounds, Verdict};
 pub use current::{current_limit, tdd_limit};
-pub use judging::verdict;
-pub use voltage::{VoltageLimit, voltage_limit};
+pub use judging::{verdict, verdicts_are_exact};
+pub use voltage::{VoltageLimit, in_force, voltage_limit};

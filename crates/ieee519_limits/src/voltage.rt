@@ -1,6 +1,7 @@
 // Limits of harmonic voltages.
 ghost use Rattle.std.specs.Prelude.{◌≡◌};
 ghost use Rattle.ieee519_limits.specs.VoltageLimits.{voltage_limit};
+ghost use Rattle.ieee519_limits.specs.Levels.{in_force};
 
 use fixed_decimal::Decimal;
 
@@ -27,4 +28,11 @@ pub fn voltage_limit(kv: Decimal) -> VoltageLimit
         (10_000, 15_000)
     };
     VoltageLimit { each, total }
+}
+
+/// The limit that is in force: a planning level where there is one, else the standard's limit. Both are in ten-thousandths of a percent.
+pub fn in_force(standard: u64, level: Option<u64>) -> u64
+    ensures { result ≡ in_force standard level }
+{
+    level.unwrap_or(standard)
 }

@@ -4,6 +4,8 @@
 #[cfg(test)]
 mod curves;
 #[cfg(test)]
+mod distortion_rows;
+#[cfg(test)]
 mod faults;
 #[cfg(test)]
 mod limits;

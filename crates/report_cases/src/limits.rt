@@ -1,7 +1,8 @@
 // Limits and verdicts worked by hand.
 use fixed_decimal::Decimal;
 use ieee519_limits::{
-    PercentBounds, Verdict, VoltageLimit, current_limit, tdd_limit, verdict, voltage_limit,
+    PercentBounds, Verdict, VoltageLimit, current_limit, in_force, tdd_limit, verdict,
+    voltage_limit,
 };
 use std::process::Abort;
 
@@ -104,6 +105,14 @@ fn found_elsewhere() -> [(&'static str, u64, u64); 5] {
 fn limits_of_currents_elsewhere(rt: HostRuntime) {
     for (label, found, limit) in found_elsewhere() {
         assert_eq!(rt; found, limit, "{label}");
+    }
+}
+
+// A planning level stands in the place of the standard's limit, also where it is greater.
+#[test]
+fn limits_in_force(rt: HostRuntime) {
+    for (level, limit) in [(None, 30_000), (Some(87_000), 87_000), (Some(1), 1)] {
+        assert_eq!(rt; in_force(30_000, level), limit);
     }
 }
 

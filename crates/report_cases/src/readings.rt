@@ -54,7 +54,7 @@ fn whole_reports(rt: HostRuntime) {
 }
 
 /// Texts that are no report, each with its first line that is none.
-const BAD: [(&str, &str, u32); 24] = [
+const BAD: [(&str, &str, u32); 25] = [
     ("no bytes", "", 1),
     ("an empty line", "\n", 1),
     ("no line feed", "end,0", 1),
@@ -72,6 +72,11 @@ const BAD: [(&str, &str, u32); 24] = [
     (
         "a drill",
         "drill,7,120\nsummary,s1,256,0,0,256,1\nend,4\n",
+        1,
+    ),
+    (
+        "a report on distortion",
+        "thd,B1,s,0.0000,0.0000,5.0000,pass\nsummary,limits,1,0,0\nend,0\n",
         1,
     ),
     (

@@ -2,53 +2,52 @@
 use Rattle.std.proofs.Common.{◌≡◌, ◌∙◌, ap, ℕ, ◌≤◌, Bool, true, false, List, ◌++◌, length, refl, arith, append_assoc}
 use Rattle.std.specs.Prelude.{◌==◌, if◌then◌else◌}
 use Rattle.scan_report.specs.declared.rows.Row.{Row}
-use Rattle.scan_report.specs.declared.rows.Row.TheVariants.{Scan, BoxLine, Region, Summary, Drill, End}
+use Rattle.scan_report.specs.declared.rows.Row.TheVariants.{Scan, BoxLine, Region, Summary, Drill, Voltage, Thd, Current, Tdd, LimitsSummary, End}
 use Rattle.scan_report.specs.Fields.{fields_text}
 use Rattle.scan_report.specs.Rows.{word_of, fields_of, row_text}
-use Rattle.scan_report.specs.Reading.{IsRow}
-use Rattle.scan_report.specs.Loose.{after_field, first_of, second_of, scan_of, box_of, region_of, summary_of, drill_of, end_of, row_of}
+use Rattle.scan_report.specs.Reading.{Stage, between, within, MayStand, IsRow}
+use Rattle.scan_report.specs.Loose.{after_field, first_of, second_of, scan_of, box_of, region_of, summary_of, end_of, row_of}
 use Rattle.scan_report.proofs.Fronts.{Inner}
 use Rattle.scan_report.proofs.FieldBack.{fields_in, fields_are, fields_with, with_tail, field_passed, fields_back}
 
-inner_word : (r : Row) → Inner (word_of r)
-inner_word (Scan name bus network from to threshold method) = record { is = refl }
-inner_word (BoxLine number lo hi word at ohms) = record { is = refl }
-inner_word (Region number lo hi hertz_lo hertz_hi peaks undecided at ohms) = record { is = refl }
-inner_word (Summary name boxes cleared peaks undecided regions) = record { is = refl }
-inner_word (Drill number nodes) = record { is = refl }
-inner_word (End status) = record { is = refl }
+-- a row that may stand somewhere has one word
+inner_word : (s : Stage) (r : Row) → MayStand s r → Inner (word_of r)
+inner_word between (Scan name bus network from to threshold method) may = record { is = refl }
+inner_word between (End status) may = record { is = refl }
+inner_word within (BoxLine number lo hi word at ohms) may = record { is = refl }
+inner_word within (Region number lo hi hertz_lo hertz_hi peaks undecided at ohms) may = record { is = refl }
+inner_word within (Summary name boxes cleared peaks undecided regions) may = record { is = refl }
+inner_word _ _ may = absurd may
 
 row_with : (r : Row) (tail : List ℕ) → row_text r ++ tail ≡ word_of r ++ fields_with (fields_of r) tail
 row_with r tail = append_assoc (word_of r) (fields_text (fields_of r)) tail ∙ ap (λ x. word_of r ++ x) (with_tail (fields_of r) tail)
 
 -- the fields of a text that begins with a row's own are the row's
-row_fields : (r : Row) (tail : List ℕ) → IsRow r → fields_in (fields_of r) (after_field (row_text r ++ tail)) ≡ fields_of r
-row_fields r tail h =
+row_fields : (s : Stage) (r : Row) (tail : List ℕ) → MayStand s r → IsRow r → fields_in (fields_of r) (after_field (row_text r ++ tail)) ≡ fields_of r
+row_fields s r tail may h =
     ap (λ x. fields_in (fields_of r) (after_field x)) (row_with r tail)
-    ∙ ap (λ x. fields_in (fields_of r) x) (field_passed (word_of r) (fields_of r) tail (inner_word r))
+    ∙ ap (λ x. fields_in (fields_of r) x) (field_passed (word_of r) (fields_of r) tail (inner_word s r may))
     ∙ fields_back (fields_of r) tail h
 
--- The row of a text that begins with a row's own text is that row.
-pub row_back : (r : Row) (tail : List ℕ) → IsRow r → row_of (row_text r ++ tail) ≡ r
-unfolding row_of scan_of box_of region_of summary_of drill_of end_of
-row_back (Scan name bus network from to threshold method) tail h =
-    let e = row_fields (Scan name bus network from to threshold method) tail h in
+-- The row of a text that begins with the own text of a row that may stand somewhere is that row.
+pub row_back : (s : Stage) (r : Row) (tail : List ℕ) → MayStand s r → IsRow r → row_of (row_text r ++ tail) ≡ r
+unfolding row_of scan_of box_of region_of summary_of end_of
+row_back between (Scan name bus network from to threshold method) tail may h =
+    let e = row_fields between (Scan name bus network from to threshold method) tail may h in
     cc
-row_back (BoxLine number lo hi word at ohms) tail h =
-    let e = row_fields (BoxLine number lo hi word at ohms) tail h in
+row_back between (End status) tail may h =
+    let e = row_fields between (End status) tail may h in
     cc
-row_back (Region number lo hi hertz_lo hertz_hi peaks undecided at ohms) tail h =
-    let e = row_fields (Region number lo hi hertz_lo hertz_hi peaks undecided at ohms) tail h in
+row_back within (BoxLine number lo hi word at ohms) tail may h =
+    let e = row_fields within (BoxLine number lo hi word at ohms) tail may h in
     cc
-row_back (Summary name boxes cleared peaks undecided regions) tail h =
-    let e = row_fields (Summary name boxes cleared peaks undecided regions) tail h in
+row_back within (Region number lo hi hertz_lo hertz_hi peaks undecided at ohms) tail may h =
+    let e = row_fields within (Region number lo hi hertz_lo hertz_hi peaks undecided at ohms) tail may h in
     cc
-row_back (Drill number nodes) tail h =
-    let e = row_fields (Drill number nodes) tail h in
+row_back within (Summary name boxes cleared peaks undecided regions) tail may h =
+    let e = row_fields within (Summary name boxes cleared peaks undecided regions) tail may h in
     cc
-row_back (End status) tail h =
-    let e = row_fields (End status) tail h in
-    cc
+row_back _ _ tail may h = absurd may
 
 -- the row of any text is in the ranges of its fields
 scan_is : (x : List ℕ) → IsRow (scan_of x)
@@ -67,10 +66,6 @@ summary_is : (x : List ℕ) → IsRow (summary_of x)
 unfolding summary_of
 summary_is x = fields_are (fields_of (summary_of x)) (after_field x)
 
-drill_is : (x : List ℕ) → IsRow (drill_of x)
-unfolding drill_of
-drill_is x = fields_are (fields_of (drill_of x)) (after_field x)
-
 end_is : (x : List ℕ) → IsRow (end_of x)
 unfolding end_of
 end_is x = fields_are (fields_of (end_of x)) (after_field x)
@@ -82,13 +77,11 @@ either_is false r s h k = k
 pub row_is : (x : List ℕ) → IsRow (row_of x)
 unfolding row_of
 row_is x =
-    let r4 : Row = if second_of x == 99 then scan_of x else summary_of x in
-    let r3 : Row = if first_of x == 101 then end_of x else r4 in
-    let r2 : Row = if first_of x == 100 then drill_of x else r3 in
+    let r3 : Row = if second_of x == 99 then scan_of x else summary_of x in
+    let r2 : Row = if first_of x == 101 then end_of x else r3 in
     let r1 : Row = if first_of x == 114 then region_of x else r2 in
-    let i4 : IsRow r4 = either_is (second_of x == 99) (scan_of x) (summary_of x) (scan_is x) (summary_is x) in
-    let i3 : IsRow r3 = either_is (first_of x == 101) (end_of x) r4 (end_is x) i4 in
-    let i2 : IsRow r2 = either_is (first_of x == 100) (drill_of x) r3 (drill_is x) i3 in
+    let i3 : IsRow r3 = either_is (second_of x == 99) (scan_of x) (summary_of x) (scan_is x) (summary_is x) in
+    let i2 : IsRow r2 = either_is (first_of x == 101) (end_of x) r3 (end_is x) i3 in
     let i1 : IsRow r1 = either_is (first_of x == 114) (region_of x) r2 (region_is x) i2 in
     either_is (first_of x == 98) (box_of x) r1 (box_is x) i1
 
@@ -99,4 +92,9 @@ row_some (BoxLine number lo hi word at ohms) = omega arith
 row_some (Region number lo hi hertz_lo hertz_hi peaks undecided at ohms) = omega arith
 row_some (Summary name boxes cleared peaks undecided regions) = omega arith
 row_some (Drill number nodes) = omega arith
+row_some (Voltage bus phase order lo hi limit verdict) = omega arith
+row_some (Thd bus phase lo hi limit verdict) = omega arith
+row_some (Current point phase order lo hi limit verdict) = omega arith
+row_some (Tdd point phase lo hi limit verdict) = omega arith
+row_some (LimitsSummary passes fails undecided) = omega arith
 row_some (End status) = omega arith

@@ -22,8 +22,8 @@ none_left (no_row s) e = refl
 none_left (one_more s t q qs may is rest) e = cc
 
 -- texts that are equal begin with the same row
-same_row : (r q : Row) (x y : List ℕ) → IsRow r → IsRow q → row_text r ++ x ≡ row_text q ++ y → r ≡ q
-same_row r q x y h k e = sym (row_back r x h) ∙ ap row_of e ∙ row_back q y k
+same_row : (s : Stage) (r q : Row) (x y : List ℕ) → MayStand s r → MayStand s q → IsRow r → IsRow q → row_text r ++ x ≡ row_text q ++ y → r ≡ q
+same_row s r q x y may might h k e = sym (row_back s r x may h) ∙ ap row_of e ∙ row_back s q y might k
 
 some_text : (q : Row) (x : List ℕ) → ¬ ([] ≡ row_text q ++ x)
 some_text q x e = absurd (omega (arith, ap length e, length-append (row_text q) x, row_some q))
@@ -38,7 +38,7 @@ apart (one_more s t q qs may is order) [] rest whole e open_yet none = some_text
 apart (one_more s t q qs may is order) (r ∷ rs) rest whole e open_yet none =
     let head = head_of r rs whole in
     let joined : row_text r ++ text_of rs ≡ row_text q ++ (text_of qs ++ rest) = e ∙ append_assoc (row_text q) (text_of qs) rest in
-    let same : r ≡ q = same_row r q (text_of rs) (text_of qs ++ rest) head.is is joined in
+    let same : r ≡ q = same_row s r q (text_of rs) (text_of qs ++ rest) head.may may head.is is joined in
     let tails : text_of rs ≡ text_of qs ++ rest = append_cancel_left (row_text q) (text_of rs) (text_of qs ++ rest) (subst (λ x. row_text x ++ text_of rs ≡ row_text q ++ (text_of qs ++ rest)) same joined) in
     apart order rs rest (subst (λ x. IsInOrder (stage_after x) rs ended) same head.rest) tails open_yet none
 

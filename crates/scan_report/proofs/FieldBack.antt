@@ -13,12 +13,21 @@ use Rattle.scan_report.specs.declared.rows.BoxWord.{BoxWord}
 use Rattle.scan_report.specs.declared.rows.BoxWord.TheVariants.{Cleared, Peak, Undecided}
 use Rattle.scan_report.specs.declared.fields.Field.{Field}
 use Rattle.scan_report.specs.declared.fields.Field.TheVariants as field
-use Rattle.scan_report.specs.Text.{places}
-use Rattle.scan_report.specs.Fields.{net_word, box_word, order_or_dash, ohms_or_dash, ohms_or_curve, field_text, fields_text}
+use Rattle.scan_report.specs.Text.{places, four_places}
+use Rattle.ieee519_limits.specs.declared.bounds.Verdict.{Verdict}
+use Rattle.ieee519_limits.specs.declared.bounds.Verdict.TheVariants as verdict
+use Rattle.scan_report.specs.declared.rows.PhaseWord.{PhaseWord}
+use Rattle.scan_report.specs.declared.rows.PhaseWord.TheVariants as phase
+use Rattle.scan_report.specs.Fields.{net_word, box_word, phase_word, verdict_word, order_or_dash, ohms_or_dash, ohms_or_curve, percent_or_dash, field_text, fields_text}
 use Rattle.scan_report.specs.Rows.{IsOhms}
-use Rattle.scan_report.specs.Reading.{IsShort, IsThreshold, IsField, AreFields}
+use Rattle.scan_report.specs.Reading.{IsShort, IsLong, IsThreshold, IsField, AreFields}
 use Rattle.scan_report.specs.Loose.{field_of, after_field, first_of, number_of, short_of, long_of, order_of, ohms_of, threshold_of, name_in, net_of, box_word_of, method_in}
-use Rattle.scan_report.proofs.Fronts.{Inner, Inner-decimal, Inner-places, Inner-name, Reads-decimal, Reads-places, number_is, places_no_dash, places_no_letter, field_front, after_front}
+use Rattle.scan_report.proofs.Fronts.{Inner, Inner-decimal, Inner-places, Inner-four_places, Inner-name, Reads-decimal, Reads-places, Reads-four_places, number_is, places_no_dash, places_no_letter, field_front, after_front}
+
+-- a percentage of the kind of another; no row that is read has one
+abbrev pub percent_as : Option ℕ → List ℕ → Option ℕ
+percent_as None x = None
+percent_as (Some percent) x = Some (long_of x)
 
 -- a text read as a field of the kind of another
 abbrev pub read_as : Field → List ℕ → Field
@@ -32,6 +41,9 @@ read_as (field.Bound ohms) x = field.Bound (ohms_of x)
 read_as (field.Network word) x = field.Network (net_of x)
 read_as (field.Found word) x = field.Found (box_word_of x)
 read_as (field.Method method) x = field.Method (method_in x)
+read_as (field.Phase word) x = field.Phase word
+read_as (field.Percent percent) x = field.Percent (percent_as percent x)
+read_as (field.Verdict verdict) x = field.Verdict verdict
 
 -- the fields of a text, each of the kind of one of these
 abbrev pub fields_in : List Field → List ℕ → List Field
@@ -50,6 +62,14 @@ short_places n h = rw (number_is (places n) n (Reads-places n (omega arith)) (om
 long_places : (n : ℕ) → n < 2 ^ 64 → long_of (places n) ≡ n
 unfolding long_of
 long_places n h = rw (number_is (places n) n (Reads-places n (omega arith)) (omega arith)) (omega arith)
+
+long_four_places : (n : ℕ) → n < 2 ^ 64 → long_of (four_places n) ≡ n
+unfolding long_of
+long_four_places n h = rw (number_is (four_places n) n (Reads-four_places n (omega arith)) (omega arith)) (omega arith)
+
+percent_back : (percent : Option ℕ) → IsLong percent → percent_as percent (percent_or_dash percent) ≡ percent
+percent_back None h = refl
+percent_back (Some n) h = ap Some (long_four_places n h)
 
 order_back : (at : Option ℕ) → IsShort at → order_of (order_or_dash at) ≡ at
 unfolding order_of
@@ -117,6 +137,21 @@ inner_method Elimination = record { is = refl }
 inner_method Both = record { is = refl }
 inner_method Branchwise = record { is = refl }
 
+inner_phase : (w : PhaseWord) → Inner (phase_word w)
+inner_phase phase.S = record { is = refl }
+inner_phase phase.A = record { is = refl }
+inner_phase phase.B = record { is = refl }
+inner_phase phase.C = record { is = refl }
+
+inner_verdict : (v : Verdict) → Inner (verdict_word v)
+inner_verdict verdict.Pass = record { is = refl }
+inner_verdict verdict.Fail = record { is = refl }
+inner_verdict verdict.Undecided = record { is = refl }
+
+inner_percent : (percent : Option ℕ) → IsLong percent → Inner (percent_or_dash percent)
+inner_percent None h = record { is = refl }
+inner_percent (Some n) h = Inner-four_places n (omega arith)
+
 inner_order : (at : Option ℕ) → IsShort at → Inner (order_or_dash at)
 inner_order None h = record { is = refl }
 inner_order (Some n) h = Inner-places n (omega arith)
@@ -141,6 +176,9 @@ inner_field (field.Bound ohms) h = inner_ohms ohms h
 inner_field (field.Network word) h = inner_net word
 inner_field (field.Found word) h = inner_box_word word
 inner_field (field.Method method) h = inner_method method
+inner_field (field.Phase word) h = inner_phase word
+inner_field (field.Percent percent) h = inner_percent percent h
+inner_field (field.Verdict verdict) h = inner_verdict verdict
 
 -- A field's own text is read as the field.
 field_back : (f : Field) → IsField f → read_as f (field_text f) ≡ f
@@ -154,6 +192,9 @@ field_back (field.Bound ohms) h = ap (λ x. field.Bound x) (ohms_back ohms h)
 field_back (field.Network word) h = ap (λ x. field.Network x) (net_back word)
 field_back (field.Found word) h = ap (λ x. field.Found x) (box_word_back word)
 field_back (field.Method method) h = ap (λ x. field.Method x) (method_back method)
+field_back (field.Phase word) h = refl
+field_back (field.Percent percent) h = ap (λ x. field.Percent x) (percent_back percent h)
+field_back (field.Verdict verdict) h = refl
 
 -- what is read of any text is in its range
 short_lt : (x : List ℕ) → short_of x < 2 ^ 32
@@ -163,6 +204,10 @@ short_lt x = omega arith
 long_lt : (x : List ℕ) → long_of x < 2 ^ 64
 unfolding long_of
 long_lt x = omega arith
+
+percent_long : (percent : Option ℕ) (x : List ℕ) → IsLong (percent_as percent x)
+percent_long None x = tt
+percent_long (Some n) x = long_lt x
 
 order_short : (x : List ℕ) → IsShort (order_of x)
 unfolding order_of
@@ -198,6 +243,9 @@ field_is (field.Bound ohms) x = ohms_are x
 field_is (field.Network word) x = tt
 field_is (field.Found word) x = tt
 field_is (field.Method method) x = tt
+field_is (field.Phase word) x = tt
+field_is (field.Percent percent) x = percent_long percent x
+field_is (field.Verdict verdict) x = tt
 
 pub fields_are : (fs : List Field) (x : List ℕ) → AreFields (fields_in fs x)
 fields_are [] x = tt

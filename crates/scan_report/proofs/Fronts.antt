@@ -9,7 +9,7 @@ use Rattle.std.specs.Prelude.{◌==◌, nat_le}
 use Rattle.std.specs.Fmt.{decimal}
 use Rattle.std.specs.List.{prefix_len, fold, list_all}
 use Rattle.study_model.specs.NameText.{is_name, is_name_byte}
-use Rattle.scan_report.specs.Text.{places, six_digits}
+use Rattle.scan_report.specs.Text.{places, six_digits, four_places, four_digits}
 use Rattle.scan_report.specs.Loose.{is_inner, field_of, after_field, digit_on, number_of, first_of}
 
 -- no byte of it ends a field
@@ -66,6 +66,12 @@ Inner-six n =
 
 pub Inner-places : (n : ℕ) → n < 10 ^ 64 → Inner (places n)
 Inner-places n h = Inner-append (decimal (n / 1000000)) (46 ∷ six_digits (n % 1000000)) (Inner-decimal (n / 1000000) (omega arith)) (inner_one 46 (six_digits (n % 1000000)) refl (Inner-six (n % 1000000)))
+
+Inner-four : (n : ℕ) → Inner (four_digits n)
+Inner-four n = six_one (n / 1000 % 10) _ (omega arith) (six_one (n / 100 % 10) _ (omega arith) (six_one (n / 10 % 10) _ (omega arith) (six_one (n % 10) _ (omega arith) none)))
+
+pub Inner-four_places : (n : ℕ) → n < 10 ^ 64 → Inner (four_places n)
+Inner-four_places n h = Inner-append (decimal (n / 10000)) (46 ∷ four_digits (n % 10000)) (Inner-decimal (n / 10000) (omega arith)) (inner_one 46 (four_digits (n % 10000)) refl (Inner-four (n % 10000)))
 
 -- a name's bytes are inner
 inner_byte : (b : ℕ) → is_name_byte b ≡ true → is_inner b ≡ true
@@ -136,6 +142,20 @@ Reads-places n h =
     let front = point_read (decimal (n / 1000000)) (n / 1000000) (Reads-decimal (n / 1000000) (omega arith)) in
     subst_reads (places n) (n / 1000000 * 1000000 + n % 1000000) n (omega arith)
     (joined (decimal (n / 1000000)) 46 (six_digits (n % 1000000)) _ (six_read (decimal (n / 1000000) ++ 46 ∷ []) (n / 1000000) (n % 1000000) (omega arith) front))
+
+-- four digits after a number
+four_read : (x : List ℕ) (v n : ℕ) → n < 10000 → Reads x v → Reads (x ++ four_digits n) (v * 10000 + n)
+four_read x v n h r =
+    then_digit x _ v (n / 1000 % 10) _ (omega arith) r (λ z q.
+    then_digit z _ _ (n / 100 % 10) _ (omega arith) q (λ z q.
+    then_digit z _ _ (n / 10 % 10) _ (omega arith) q (λ z q.
+    last_digit z _ (n % 10) _ (omega arith) (omega arith) q)))
+
+pub Reads-four_places : (n : ℕ) → n < 10 ^ 64 → Reads (four_places n) n
+Reads-four_places n h =
+    let front = point_read (decimal (n / 10000)) (n / 10000) (Reads-decimal (n / 10000) (omega arith)) in
+    subst_reads (four_places n) (n / 10000 * 10000 + n % 10000) n (omega arith)
+    (joined (decimal (n / 10000)) 46 (four_digits (n % 10000)) _ (four_read (decimal (n / 10000) ++ 46 ∷ []) (n / 10000) (n % 10000) (omega arith) front))
 
 pub number_is : (x : List ℕ) (n : ℕ) → Reads x n → n ≤ 10 ^ 37 → number_of x ≡ n
 unfolding number_of

@@ -2,11 +2,15 @@
 use Rattle.std.specs.Prelude.{ℕ, ℤ, ◌+◌, unsigned_abs, List, [], ◌∷◌, ◌++◌, codes, Option, Some, None}
 use Rattle.std.specs.Fmt.{decimal}
 use Rattle.study_model.specs.ValueWords.{method_text}
-use Rattle.scan_report.specs.Text.{places}
+use Rattle.ieee519_limits.specs.declared.bounds.Verdict.{Verdict}
+use Rattle.ieee519_limits.specs.declared.bounds.Verdict.TheVariants as verdict
+use Rattle.scan_report.specs.Text.{places, four_places}
 use Rattle.scan_report.specs.declared.rows.NetWord.{NetWord}
 use Rattle.scan_report.specs.declared.rows.NetWord.TheVariants.{Positive, Zero, A, B, C}
 use Rattle.scan_report.specs.declared.rows.BoxWord.{BoxWord}
 use Rattle.scan_report.specs.declared.rows.BoxWord.TheVariants.{Cleared, Peak, Undecided}
+use Rattle.scan_report.specs.declared.rows.PhaseWord.{PhaseWord}
+use Rattle.scan_report.specs.declared.rows.PhaseWord.TheVariants as phase
 use Rattle.scan_report.specs.declared.fields.Field.{Field}
 use Rattle.scan_report.specs.declared.fields.Field.TheVariants as field
 
@@ -23,6 +27,18 @@ box_word Cleared = codes "cleared"
 box_word Peak = codes "peak"
 box_word Undecided = codes "undecided"
 
+-- a sequence network, or a phase, of a distortion
+abbrev pub phase_word : PhaseWord → List ℕ
+phase_word phase.S = codes "s"
+phase_word phase.A = codes "a"
+phase_word phase.B = codes "b"
+phase_word phase.C = codes "c"
+
+abbrev pub verdict_word : Verdict → List ℕ
+verdict_word verdict.Pass = codes "pass"
+verdict_word verdict.Fail = codes "fail"
+verdict_word verdict.Undecided = codes "undecided"
+
 -- an order, or a dash where it is absent
 abbrev pub order_or_dash : Option ℕ → List ℕ
 order_or_dash None = codes "-"
@@ -38,6 +54,11 @@ abbrev pub ohms_or_curve : Option ℤ → List ℕ
 ohms_or_curve None = codes "curve"
 ohms_or_curve (Some ohms) = places (unsigned_abs ohms)
 
+-- a percentage, or a dash where it is absent
+abbrev pub percent_or_dash : Option ℕ → List ℕ
+percent_or_dash None = codes "-"
+percent_or_dash (Some ten_thousandths) = four_places ten_thousandths
+
 -- the text of a field
 abbrev pub field_text : Field → List ℕ
 field_text (field.Name name) = name
@@ -50,6 +71,9 @@ field_text (field.Bound micro_ohms) = ohms_or_dash micro_ohms
 field_text (field.Network word) = net_word word
 field_text (field.Found word) = box_word word
 field_text (field.Method method) = method_text method
+field_text (field.Phase word) = phase_word word
+field_text (field.Percent percent) = percent_or_dash percent
+field_text (field.Verdict verdict) = verdict_word verdict
 
 -- each field after a comma, and a line feed
 abbrev pub fields_text : List Field → List ℕ
@@ -68,6 +92,9 @@ most_of (field.Bound micro_ohms) = 38
 most_of (field.Network word) = 8
 most_of (field.Found word) = 9
 most_of (field.Method method) = 11
+most_of (field.Phase word) = 1
+most_of (field.Percent percent) = 21
+most_of (field.Verdict verdict) = 9
 
 -- the most bytes of fields, their commas and the line feed
 abbrev pub most_of_all : List Field → ℕ

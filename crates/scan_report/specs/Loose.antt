@@ -9,7 +9,7 @@ use Rattle.scan_report.specs.declared.rows.NetWord.TheVariants.{Positive, Zero, 
 use Rattle.scan_report.specs.declared.rows.BoxWord.{BoxWord}
 use Rattle.scan_report.specs.declared.rows.BoxWord.TheVariants.{Cleared, Peak, Undecided}
 use Rattle.scan_report.specs.declared.rows.Row.{Row}
-use Rattle.scan_report.specs.declared.rows.Row.TheVariants.{Scan, BoxLine, Region, Summary, Drill, End}
+use Rattle.scan_report.specs.declared.rows.Row.TheVariants.{Scan, BoxLine, Region, Summary, End}
 
 -- a byte that ends no field: neither a comma nor a line feed
 abbrev pub is_inner : ℕ → Bool
@@ -89,14 +89,11 @@ unfoldable pub summary_of : List ℕ → Row
 summary_of x = Summary (name_in (field_at 1 x)) (short_of (field_at 2 x)) (short_of (field_at 3 x)) (short_of (field_at 4 x)) (short_of (field_at 5 x))
     (short_of (field_at 6 x))
 
-unfoldable pub drill_of : List ℕ → Row
-drill_of x = Drill (short_of (field_at 1 x)) (short_of (field_at 2 x))
-
 unfoldable pub end_of : List ℕ → Row
 end_of x = End (short_of (field_at 1 x))
 
--- the row that a text begins with, if it begins with one
+-- the row that a text begins with, if it begins with one of the report of a scan
 unfoldable pub row_of : List ℕ → Row
 row_of text = if first_of text == 98 then box_of text else (if first_of text == 114 then region_of text
-    else (if first_of text == 100 then drill_of text else (if first_of text == 101 then end_of text
-    else (if second_of text == 99 then scan_of text else summary_of text))))
+    else (if first_of text == 101 then end_of text
+    else (if second_of text == 99 then scan_of text else summary_of text)))

@@ -39,6 +39,11 @@ abbrev pub IsShort : Option ℕ → Type 0
 IsShort None = Unit {0}
 IsShort (Some n) = n < 2 ^ 32
 
+-- a number of 64 bits, or none
+abbrev pub IsLong : Option ℕ → Type 0
+IsLong None = Unit {0}
+IsLong (Some n) = n < 2 ^ 64
+
 -- a threshold above 0 and below a million ohms, or none
 abbrev pub IsThreshold : Option ℤ → Type 0
 IsThreshold None = Unit {0}
@@ -56,6 +61,9 @@ IsField (field.Bound micro_ohms) = IsOhms micro_ohms
 IsField (field.Network word) = Unit {0}
 IsField (field.Found word) = Unit {0}
 IsField (field.Method method) = Unit {0}
+IsField (field.Phase word) = Unit {0}
+IsField (field.Percent percent) = IsLong percent
+IsField (field.Verdict verdict) = Unit {0}
 
 abbrev pub AreFields : List Field → Type 0
 AreFields [] = Unit {0}

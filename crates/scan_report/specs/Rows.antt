@@ -4,15 +4,20 @@ use Rattle.scan_report.specs.Fields.{fields_text}
 use Rattle.scan_report.specs.declared.fields.Field.{Field}
 use Rattle.scan_report.specs.declared.fields.Field.TheVariants as field
 use Rattle.scan_report.specs.declared.rows.Row.{Row}
-use Rattle.scan_report.specs.declared.rows.Row.TheVariants.{Scan, BoxLine, Region, Summary, Drill, End}
+use Rattle.scan_report.specs.declared.rows.Row.TheVariants.{Scan, BoxLine, Region, Summary, Drill, Voltage, Thd, Current, Tdd, LimitsSummary, End}
 
--- the word of each row
+-- the word of each row; the counts of a report on distortion stand under the name that no scan may have
 abbrev pub word_of : Row → List ℕ
 word_of (Scan name bus network from to threshold method) = codes "scan"
 word_of (BoxLine number lo hi word at micro_ohms) = codes "box"
 word_of (Region number lo hi hertz_lo hertz_hi peaks undecided at micro_ohms) = codes "region"
 word_of (Summary name boxes cleared peaks undecided regions) = codes "summary"
 word_of (Drill number nodes) = codes "drill"
+word_of (Voltage bus phase order lo hi limit verdict) = codes "voltage"
+word_of (Thd bus phase lo hi limit verdict) = codes "thd"
+word_of (Current point phase order lo hi limit verdict) = codes "current"
+word_of (Tdd point phase lo hi limit verdict) = codes "tdd"
+word_of (LimitsSummary passes fails undecided) = codes "summary,limits"
 word_of (End status) = codes "end"
 
 -- the fields of each row, in their order
@@ -27,6 +32,15 @@ fields_of (Region number lo hi hertz_lo hertz_hi peaks undecided at micro_ohms) 
 fields_of (Summary name boxes cleared peaks undecided regions) =
     field.Name name ∷ field.Number boxes ∷ field.Number cleared ∷ field.Number peaks ∷ field.Number undecided ∷ field.Number regions ∷ []
 fields_of (Drill number nodes) = field.Number number ∷ field.Number nodes ∷ []
+fields_of (Voltage bus phase order lo hi limit verdict) =
+    field.Name bus ∷ field.Phase phase ∷ field.Number order ∷ field.Percent lo ∷ field.Percent hi ∷ field.Percent (Some limit) ∷ field.Verdict verdict ∷ []
+fields_of (Thd bus phase lo hi limit verdict) =
+    field.Name bus ∷ field.Phase phase ∷ field.Percent lo ∷ field.Percent hi ∷ field.Percent (Some limit) ∷ field.Verdict verdict ∷ []
+fields_of (Current point phase order lo hi limit verdict) =
+    field.Name point ∷ field.Phase phase ∷ field.Number order ∷ field.Percent lo ∷ field.Percent hi ∷ field.Percent (Some limit) ∷ field.Verdict verdict ∷ []
+fields_of (Tdd point phase lo hi limit verdict) =
+    field.Name point ∷ field.Phase phase ∷ field.Percent lo ∷ field.Percent hi ∷ field.Percent (Some limit) ∷ field.Verdict verdict ∷ []
+fields_of (LimitsSummary passes fails undecided) = field.Number passes ∷ field.Number fails ∷ field.Number undecided ∷ []
 fields_of (End status) = field.Number status ∷ []
 
 -- the line of a row: its word, each of its fields after a comma, and a line feed

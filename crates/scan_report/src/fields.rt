@@ -1,14 +1,15 @@
 // The fields of a row: what kinds there are, and each one's text.
 ghost use Rattle.std.specs.Prelude.{◌≡◌, ◌≤◌, ◌+◌, ◌++◌, length};
-ghost use Rattle.scan_report.specs.Fields.{net_word, box_word, order_or_dash, ohms_or_dash, ohms_or_curve, field_text, fields_text, most_of, most_of_all};
+ghost use Rattle.scan_report.specs.Fields.{net_word, box_word, phase_word, verdict_word, order_or_dash, ohms_or_dash, ohms_or_curve, percent_or_dash, field_text, fields_text, most_of, most_of_all};
 ghost use Rattle.scan_report.specs.Rows.{IsOhms, IsAboveZero, HasFieldText, HaveText};
 
-use crate::line::{LineBuf, push_millionths, push_number, push_places};
-use crate::rows::{BoxWord, NetWord};
+use crate::line::{LineBuf, push_millionths, push_number, push_percent, push_places};
+use crate::rows::{BoxWord, NetWord, PhaseWord};
 use fixed_decimal::Decimal;
+use ieee519_limits::Verdict;
 use study_model::{Method, Name};
 
-/// A field of a row. Orders, hertz and ohms are in millionths.
+/// A field of a row. Orders, hertz and ohms are in millionths, percents in ten-thousandths.
 #[derive(Clone, Copy)]
 pub enum Field {
     Name(Name),
@@ -24,6 +25,10 @@ pub enum Field {
     Network(NetWord),
     Found(BoxWord),
     Method(Method),
+    Phase(PhaseWord),
+    /// A percentage, or none.
+    Percent(Option<u64>),
+    Verdict(Verdict),
 }
 
 fn net_text(word: NetWord) -> &'static [u8]
@@ -47,6 +52,29 @@ fn box_text(word: BoxWord) -> &'static [u8]
         BoxWord::Cleared => b"cleared",
         BoxWord::Peak => b"peak",
         BoxWord::Undecided => b"undecided",
+    }
+}
+
+fn phase_text(word: PhaseWord) -> &'static [u8]
+    ensures text { result.now ≡ phase_word word }
+    ensures len { length result.now ≤ 1 }
+{
+    match word {
+        PhaseWord::S => b"s",
+        PhaseWord::A => b"a",
+        PhaseWord::B => b"b",
+        PhaseWord::C => b"c",
+    }
+}
+
+fn verdict_text(verdict: Verdict) -> &'static [u8]
+    ensures text { result.now ≡ verdict_word verdict }
+    ensures len { length result.now ≤ 9 }
+{
+    match verdict {
+        Verdict::Pass => b"pass",
+        Verdict::Fail => b"fail",
+        Verdict::Undecided => b"undecided",
     }
 }
 
@@ -86,6 +114,17 @@ fn push_threshold(line: &mut LineBuf, ohms: Option<Decimal>)
     }
 }
 
+fn push_share(line: &mut LineBuf, percent: Option<u64>)
+    requires { length line.old + 21 ≤ 256 }
+    ensures text { line.new ≡ line.old ++ percent_or_dash percent }
+    ensures len { length line.new ≤ length line.old + 21 }
+{
+    match percent {
+        Some(percent) => push_percent(line, percent),
+        None => line.push(b'-'),
+    }
+}
+
 /// Puts a field's text at the end.
 fn push_field(line: &mut LineBuf, field: &Field)
     requires has { HasFieldText field.now }
@@ -104,6 +143,9 @@ fn push_field(line: &mut LineBuf, field: &Field)
         Field::Network(word) => line.push_text(net_text(*word)),
         Field::Found(word) => line.push_text(box_text(*word)),
         Field::Method(method) => line.push_text(method.text().as_bytes()),
+        Field::Phase(word) => line.push_text(phase_text(*word)),
+        Field::Percent(percent) => push_share(line, *percent),
+        Field::Verdict(verdict) => line.push_text(verdict_text(*verdict)),
     }
 }
 

@@ -1,7 +1,7 @@
 // A line that is written piece by piece.
 ghost use Rattle.std.specs.Prelude.{◌≡◌, ◌+◌, ◌^◌, ◌*◌, ◌/◌, ◌<◌, ◌≤◌, [], ◌∷◌, ◌++◌, length, take};
 ghost use Rattle.std.specs.Fmt.{decimal};
-ghost use Rattle.scan_report.specs.Text.{places};
+ghost use Rattle.scan_report.specs.Text.{places, four_places};
 
 use std::marker::Model;
 
@@ -123,4 +123,22 @@ pub(crate) fn push_millionths(line: &mut LineBuf, millionths: u64)
     ensures len { length line.new ≤ length line.old + 21 }
 {
     push_places(line, u128::from(millionths));
+}
+
+/// A number of ten-thousandths of 64 bits, with four places: at most 21 bytes.
+#[tactic(auto, using(crate::proofs::Digits::length_percent))]
+pub(crate) fn push_percent(line: &mut LineBuf, ten_thousandths: u64)
+    requires { length line.old + 21 ≤ 256 }
+    ensures text { line.new ≡ line.old ++ four_places ten_thousandths }
+    ensures len { length line.new ≤ length line.old + 21 }
+{
+    push_digits(line, u128::from(ten_thousandths / 10_000));
+    let part = (ten_thousandths % 10_000) as u32;
+    line.push_text(&[
+        b'.',
+        b'0' + (part / 1_000 % 10) as u8,
+        b'0' + (part / 100 % 10) as u8,
+        b'0' + (part / 10 % 10) as u8,
+        b'0' + (part % 10) as u8,
+    ]);
 }

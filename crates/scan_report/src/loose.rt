@@ -1,6 +1,6 @@
-// The row that a text begins with, if it begins with one.
+// The row that a text begins with, if it begins with one of the report of a scan.
 ghost use Rattle.std.specs.Prelude.{◌≡◌};
-ghost use Rattle.scan_report.specs.Loose.{scan_of, box_of, region_of, summary_of, drill_of, end_of, row_of};
+ghost use Rattle.scan_report.specs.Loose.{scan_of, box_of, region_of, summary_of, end_of, row_of};
 
 use crate::field_text::{
     box_word_of, field_at, first_of, long_of, method_in, name_in, net_of, ohms_of, order_of,
@@ -68,16 +68,6 @@ fn summary_of(text: &[u8]) -> Row
     }
 }
 
-#[tactic(auto, unfolding(crate::specs::Loose::drill_of))]
-fn drill_of(text: &[u8]) -> Row
-    ensures { result ≡ drill_of text.now }
-{
-    Row::Drill {
-        number: short_of(field_at(text, 1)),
-        nodes: short_of(field_at(text, 2)),
-    }
-}
-
 #[tactic(auto, unfolding(crate::specs::Loose::end_of))]
 fn end_of(text: &[u8]) -> Row
     ensures { result ≡ end_of text.now }
@@ -94,7 +84,6 @@ pub(crate) fn row_of(text: &[u8]) -> Row
     match first_of(text) {
         b'b' => box_of(text),
         b'r' => region_of(text),
-        b'd' => drill_of(text),
         b'e' => end_of(text),
         _ => {
             if second_of(text) == b'c' {

@@ -6,7 +6,7 @@ ghost use Rattle.scan_report.specs.Stands.{stage_of, BeginsText, BeginsWith, Beg
 
 use crate::line::LineBuf;
 use crate::loose::row_of;
-use crate::rows::{Row, box_row, drill_row, end_row, region_row, scan_row, summary_row};
+use crate::rows::{Row, write_row};
 use sqlite_items::Items;
 use std::alloc::Global;
 use thiserror::Error;
@@ -59,20 +59,6 @@ fn stand_after(row: &Row) -> Stand
         Row::Summary { .. } => Stand::Between,
         Row::End { .. } => Stand::Ended,
         _ => Stand::Within,
-    }
-}
-
-fn write_row(row: &Row, line: &mut LineBuf)
-    requires { IsRow row.now }
-    ensures { line.new ≡ row_text row.now }
-{
-    match row {
-        Row::Scan { .. } => scan_row(row, line),
-        Row::BoxLine { .. } => box_row(row, line),
-        Row::Region { .. } => region_row(row, line),
-        Row::Summary { .. } => summary_row(row, line),
-        Row::Drill { .. } => drill_row(row, line),
-        Row::End { .. } => end_row(row, line),
     }
 }
 

@@ -1,0 +1,11 @@
+pub mod Scales
+pub mod Fits
+pub mod Everywhere
+pub mod Orders
+pub mod Solving
+pub mod Seen
+pub mod Judged
+pub mod Sums
+pub mod Lengths
+pub mod Texts
+pub mod Claims

@@ -1,0 +1,10 @@
+pub mod Cells
+pub mod Fit
+pub mod Gathering
+pub mod Lines
+pub mod Sections
+pub mod Marks
+pub mod Table
+pub mod Report
+pub mod Claim
+pub mod Truth

@@ -1,0 +1,199 @@
+// The report on the distortion of a study by a spectrum.
+ghost use Rattle.std.specs.Prelude.{◌≡◌, ◌<◌, ◌^◌, length, All, IfOk, OnOk};
+ghost use Rattle.std.specs.List.{AllByRecursion, list_any};
+ghost use Rattle.sequence_network.specs.Built.{IsNetworkOf};
+ghost use Rattle.study_model.specs.Lawful.{IsLawful};
+ghost use Rattle.study_model.specs.declared.words.StudyModel.TheVariants as study_model;
+ghost use Rattle.study_model.specs.declared.words.Sequence.TheVariants.{Positive, Zero};
+ghost use Rattle.spectrum_reader.specs.Lawful.{IsLawfulSpectrum};
+ghost use Rattle.harmonic_injection.specs.Paths.{HasPath};
+ghost use Rattle.scan_report.specs.Rows.{fields_of, HaveText};
+ghost use Rattle.limits_report.specs.Report.{passes, fails, is_undecided, has_verdict, count_of, counts_row, status_of, closed, limits_rows_of, limits_status};
+ghost use Rattle.limits_report.specs.Claim.{HoldsOfLimits};
+
+use crate::keep::keep;
+use crate::sections::body_rows;
+use crate::table::table_of;
+use complex_interval::{Enclosure, Span};
+use ieee519_limits::Verdict;
+use scan_report::Row;
+use sequence_network::Networks;
+use spectrum_reader::{Levels, Spectrum};
+use sqlite_items::Items;
+use std::alloc::{AllocError, Global};
+use study_model::Study;
+
+/// The rows of a report on distortion, and its status: 3 where some verdict is fail, else 4 where some is undecided, else 0.
+#[derive(Drop)]
+pub struct LimitsReport {
+    pub rows: Items<Row>,
+    pub status: u8,
+}
+
+#[tactic(auto, unfolding(crate::specs::Report::has_verdict))]
+fn passes(row: &Row) -> bool
+    ensures { result ≡ has_verdict passes row.now }
+{
+    match row {
+        Row::Voltage { verdict, .. }
+        | Row::Thd { verdict, .. }
+        | Row::Current { verdict, .. }
+        | Row::Tdd { verdict, .. } => matches!(verdict, Verdict::Pass),
+        _ => false,
+    }
+}
+
+#[tactic(auto, unfolding(crate::specs::Report::has_verdict))]
+fn fails(row: &Row) -> bool
+    ensures { result ≡ has_verdict fails row.now }
+{
+    match row {
+        Row::Voltage { verdict, .. }
+        | Row::Thd { verdict, .. }
+        | Row::Current { verdict, .. }
+        | Row::Tdd { verdict, .. } => matches!(verdict, Verdict::Fail),
+        _ => false,
+    }
+}
+
+#[tactic(auto, unfolding(crate::specs::Report::has_verdict))]
+fn is_undecided(row: &Row) -> bool
+    ensures { result ≡ has_verdict is_undecided row.now }
+{
+    match row {
+        Row::Voltage { verdict, .. }
+        | Row::Thd { verdict, .. }
+        | Row::Current { verdict, .. }
+        | Row::Tdd { verdict, .. } => matches!(verdict, Verdict::Undecided),
+        _ => false,
+    }
+}
+
+fn count_passes(rows: &[Row]) -> u32
+    requires { length rows.now < 2 ^ 32 }
+    ensures { result ≡ count_of passes rows.now }
+{
+    rows.iter().filter(|row| passes(row)).count() as u32
+}
+
+fn count_fails(rows: &[Row]) -> u32
+    requires { length rows.now < 2 ^ 32 }
+    ensures { result ≡ count_of fails rows.now }
+{
+    rows.iter().filter(|row| fails(row)).count() as u32
+}
+
+fn count_undecided(rows: &[Row]) -> u32
+    requires { length rows.now < 2 ^ 32 }
+    ensures { result ≡ count_of is_undecided rows.now }
+{
+    rows.iter().filter(|row| is_undecided(row)).count() as u32
+}
+
+/// The row that counts the verdicts.
+fn counts_row(rows: &[Row]) -> Row
+    requires { length rows.now < 2 ^ 32 }
+    ensures { result ≡ counts_row rows.now }
+{
+    Row::LimitsSummary {
+        passes: count_passes(rows),
+        fails: count_fails(rows),
+        undecided: count_undecided(rows),
+    }
+}
+
+fn some_fails(rows: &[Row]) -> bool
+    ensures { result ≡ list_any (has_verdict fails) rows.now }
+{
+    rows.iter().any(|row| fails(row))
+}
+
+fn some_are_undecided(rows: &[Row]) -> bool
+    ensures { result ≡ list_any (has_verdict is_undecided) rows.now }
+{
+    rows.iter().any(|row| is_undecided(row))
+}
+
+fn status_of(rows: &[Row]) -> u8
+    ensures { result ≡ status_of rows.now }
+{
+    if some_fails(rows) {
+        3
+    } else if some_are_undecided(rows) {
+        4
+    } else {
+        0
+    }
+}
+
+/// The report of these rows: with the row of their counts, and the last row.
+fn closed(mut rows: Items<Row>) -> Result<LimitsReport, AllocError>
+    requires { length rows < 2 ^ 32 }
+    ensures rows { IfOk result (λ report. report.rows ≡ closed rows) }
+    ensures status { IfOk result (λ report. report.status ≡ status_of rows) }
+{
+    let status = status_of(rows.as_slice());
+    let counts = counts_row(rows.as_slice());
+    keep::<Row>(&mut rows, counts)?;
+    let end = Row::End {
+        status: u32::from(status),
+    };
+    keep::<Row>(&mut rows, end)?;
+    Ok(LimitsReport { rows, status })
+}
+
+/// The report at the scale of a study.
+#[tactic(auto, unfolding(crate::specs::Report::limits_rows_of, crate::specs::Report::limits_status), using(crate::proofs::Lengths::few_rows))]
+fn report_at<E: Enclosure>(
+    alloc: Global,
+    study: &Study,
+    networks: &Networks,
+    spectrum: &Spectrum,
+    levels: &Levels,
+) -> Result<LimitsReport, AllocError>
+    requires study { IsLawful study.now }
+    requires model { study.now.model ≡ study_model.Sequence }
+    requires positive { IsNetworkOf study.now Positive networks.now.positive }
+    requires zero { IsNetworkOf study.now Zero networks.now.zero }
+    requires spectrum { IsLawfulSpectrum study.now spectrum.now.rows }
+    requires paths { All (HasPath study.now) spectrum.now.rows }
+    requires scale { E.SCALE ≡ study.now.scale }
+    ensures rows { IfOk result (λ report. report.rows ≡ limits_rows_of study.now spectrum.now.rows levels.now.rows) }
+    ensures status { IfOk result (λ report. report.status ≡ limits_status study.now spectrum.now.rows levels.now.rows) }
+    ensures claim { OnOk result (HoldsOfLimits study.now spectrum.now.rows levels.now.rows) }
+{
+    let table = table_of::<E>(alloc, study, networks, spectrum)?;
+    let rows = body_rows(alloc, study, levels, table.as_slice())?;
+    closed(rows)
+}
+
+/// The rows of the report on the distortion that a spectrum causes in a study, at the study's scale, beside planning levels (no rows where there
+/// are none), and its status. Voltage rows stand by ascending order, then bus; then the total distortion of each bus; then for each point of common
+/// coupling its currents by order and their total demand distortion; the counts of verdicts; the last row. A bus that isn't live in the network
+/// that an order sees has no row of that order. Conditions: the study is accepted and of the sequence model, the networks are its networks, and each
+/// row of the spectrum has a path. (This project's own; limits after IEEE Std 519-2022.)
+#[tactic(auto, using(crate::proofs::Texts::have_text))]
+pub fn limits_rows(
+    alloc: Global,
+    study: &Study,
+    networks: &Networks,
+    spectrum: &Spectrum,
+    levels: &Levels,
+) -> Result<LimitsReport, AllocError>
+    requires study { IsLawful study.now }
+    requires model { study.now.model ≡ study_model.Sequence }
+    requires positive { IsNetworkOf study.now Positive networks.now.positive }
+    requires zero { IsNetworkOf study.now Zero networks.now.zero }
+    requires spectrum { IsLawfulSpectrum study.now spectrum.now.rows }
+    requires paths { All (HasPath study.now) spectrum.now.rows }
+    ensures rows { IfOk result (λ report. report.rows ≡ limits_rows_of study.now spectrum.now.rows levels.now.rows) }
+    ensures status { IfOk result (λ report. report.status ≡ limits_status study.now spectrum.now.rows levels.now.rows) }
+    ensures text { IfOk result (λ report. AllByRecursion (λ row. HaveText (fields_of row)) report.rows) }
+    ensures claim { OnOk result (HoldsOfLimits study.now spectrum.now.rows levels.now.rows) }
+{
+    if study.scale == 40 {
+        report_at::<Span<40>>(alloc, study, networks, spectrum, levels)
+    } else {
+        report_at::<Span<48>>(alloc, study, networks, spectrum, levels)
+    }
+}
