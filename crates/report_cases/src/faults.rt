@@ -7,7 +7,7 @@ const PLACE: Place = Place {
     key: Key::From,
 };
 
-const WITH_A_PLACE: [(StudyFault, u32, &str); 16] = [
+const WITH_A_PLACE: [(StudyFault, u32, &str); 15] = [
     (StudyFault::MissingKey(PLACE), 3, "MissingKey"),
     (StudyFault::UnknownKey(PLACE), 4, "UnknownKey"),
     (StudyFault::WrongKind(PLACE), 5, "WrongKind"),
@@ -22,7 +22,6 @@ const WITH_A_PLACE: [(StudyFault, u32, &str); 16] = [
     (StudyFault::TooFine(PLACE), 14, "TooFine"),
     (StudyFault::Floating(PLACE), 15, "Floating"),
     (StudyFault::PhaseFloating(PLACE), 16, "PhaseFloating"),
-    (StudyFault::NotBuilt(PLACE), 17, "NotBuilt"),
     (StudyFault::UnknownElement(PLACE), 18, "UnknownElement"),
 ];
 

@@ -2,7 +2,7 @@
 use Rattle.std.specs.Prelude.{ℕ, List, codes, Option, Some, None}
 use Rattle.study_model.specs.declared.fault.Place.{Place}
 use Rattle.study_model.specs.declared.fault.StudyFault.{StudyFault}
-use Rattle.study_model.specs.declared.fault.StudyFault.TheVariants.{NotToml, VersionUnknown, MissingKey, UnknownKey, WrongKind, BareDecimal, BadDecimal, OutOfRange, BadName, DuplicateName, UnknownBus, TooMany, BadBand, TooFine, Floating, PhaseFloating, NotBuilt, UnknownElement, NoMemory}
+use Rattle.study_model.specs.declared.fault.StudyFault.TheVariants.{NotToml, VersionUnknown, MissingKey, UnknownKey, WrongKind, BareDecimal, BadDecimal, OutOfRange, BadName, DuplicateName, UnknownBus, TooMany, BadBand, TooFine, Floating, PhaseFloating, UnknownElement, NoMemory}
 
 -- A fault's number, which the want of memory lacks, its name and its place.
 pub record Printed : Type 0 where
@@ -32,7 +32,6 @@ printed_of (BadBand place) = row 13 (codes "BadBand") (Some place)
 printed_of (TooFine place) = row 14 (codes "TooFine") (Some place)
 printed_of (Floating place) = row 15 (codes "Floating") (Some place)
 printed_of (PhaseFloating place) = row 16 (codes "PhaseFloating") (Some place)
-printed_of (NotBuilt place) = row 17 (codes "NotBuilt") (Some place)
 printed_of (UnknownElement place) = row 18 (codes "UnknownElement") (Some place)
 printed_of NoMemory = record { number = None; name = codes "NoMemory"; place = None }
 

@@ -220,9 +220,6 @@ pub enum StudyFault {
     /// A bus of a phase network has no path to ground in the zero network.
     #[error("a bus of a phase network has no path to ground in the zero network")]
     PhaseFloating(Place),
-    /// A form that isn't built yet.
-    #[error("the study is of a form that is not built yet")]
-    NotBuilt(Place),
     /// No element of the name touches the bus.
     #[error("no element of the name touches the bus")]
     UnknownElement(Place),
@@ -278,7 +275,6 @@ impl StudyFault {
             StudyFault::TooFine(place) => row(14, "TooFine", Some(place)),
             StudyFault::Floating(place) => row(15, "Floating", Some(place)),
             StudyFault::PhaseFloating(place) => row(16, "PhaseFloating", Some(place)),
-            StudyFault::NotBuilt(place) => row(17, "NotBuilt", Some(place)),
             StudyFault::UnknownElement(place) => row(18, "UnknownElement", Some(place)),
             StudyFault::NoMemory => Printed {
                 number: None,

@@ -26,7 +26,6 @@ use Rattle.study_model.specs.declared.records.Filter.{Filter}
 use Rattle.study_model.specs.declared.records.ScanItem.{ScanItem}
 use Rattle.study_model.specs.declared.records.Pcc.{Pcc}
 use Rattle.study_model.specs.declared.records.Study.{Study}
-use Rattle.study_reader.specs.Built.{IsBuilt, unbuilt}
 use Rattle.study_reader.specs.Branches.{line_entry_fault, line_entry, transformer_entry_fault, transformer_entry}
 use Rattle.study_reader.specs.Checks.{first_fault, unless, place_of, name_value, at, decimal_fault, default_fault, version_fault, scale_fault, word_fault, keys_fault}
 use Rattle.study_reader.specs.Entries.{bus_entry_fault, bus_entry, source_entry_fault, source_entry, bank_entry_fault, bank_entry, filter_entry_fault, filter_entry, scan_entry_fault, scan_entry}
@@ -246,8 +245,6 @@ lawful_study document e =
       names = subst (λ (ns : List (List ℕ)). AllPairs ◌≢◌ ns) (rw (points.named, scans.named, p.named, of_buses) refl) points.distinct;
     }
 
--- a study whose checks find no fault is lawful, and of a form that is built
-pub built_of : (document : Data) (study : Study) → first_fault (sections_fault document ∷ unbuilt (study_value document) ∷ []) ≡ None → study ≡ study_value document → IsBuilt study
-built_of document study e is =
-    let checks = no_fault (sections_fault document ∷ unbuilt (study_value document) ∷ []) e in
-    subst IsBuilt (sym is) (record { lawful = lawful_study document (checks 0); none = checks 1 })
+-- a study whose checks find no fault is lawful
+pub lawful_of : (document : Data) (study : Study) → sections_fault document ≡ None → study ≡ study_value document → IsLawful study
+lawful_of document study e is = subst IsLawful (sym is) (lawful_study document e)

@@ -8,5 +8,4 @@ pub mod Loads
 pub mod Branches
 pub mod Points
 pub mod Lawful
-pub mod Built
 pub mod StudyOf

@@ -17,7 +17,6 @@ use Rattle.study_reader.specs.Entries.{bus_entry_fault, bus_entry, source_entry_
 use Rattle.study_reader.specs.Branches.{line_entry_fault, line_entry, transformer_entry_fault, transformer_entry}
 use Rattle.study_reader.specs.Loads.{load_entry_fault, load_entry}
 use Rattle.study_reader.specs.Points.{point_entry_fault, point_entry}
-use Rattle.study_reader.specs.Built.{unbuilt}
 use Rattle.study_reader.specs.declared.arrays.Occurrence.{Occurrence}
 use Rattle.study_reader.specs.declared.context.Context.{Context}
 use Rattle.study_reader.specs.declared.context.Element.{Element}
@@ -127,12 +126,11 @@ study_value document =
       points = section_value (point_entry (with_elements context plant)) section.Pcc document;
     }
 
--- all checks of a document: its sections' words, its sections in order, and the forms that aren't built
+-- all checks of a document: its sections' words, and its sections in order
 unfoldable pub study_fault : Members → Option StudyFault
 study_fault ms = first_fault (
     top_fault ms ∷
-    sections_fault (table ms) ∷
-    unbuilt (study_value (table ms)) ∷ [])
+    sections_fault (table ms) ∷ [])
 
 -- the table that the grammar gives the bytes
 abbrev pub HasTable : List ℕ → Members → Type 0

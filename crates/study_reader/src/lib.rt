@@ -3,7 +3,6 @@
 
 mod arrays;
 mod branches;
-mod built;
 mod context;
 mod curves;
 mod decimal_array;

@@ -5,14 +5,12 @@ ghost use Rattle.toml.specs.Errors.{IsMemory};
 ghost use Rattle.toml.specs.View.{view, items_view, table_view};
 ghost use Rattle.study_model.specs.declared.fault.StudyFault.TheVariants.{NoMemory, NotToml};
 ghost use Rattle.study_model.specs.Lawful.{IsLawful};
-ghost use Rattle.study_reader.specs.Built.{IsBuilt, unbuilt};
 ghost use Rattle.study_reader.specs.Checks.{ReadsInMemory, first_fault, name_value};
 ghost use Rattle.study_reader.specs.Sections.{entries_fault, entries_of, section_fault, section_value, section_names};
 ghost use Rattle.study_reader.specs.StudyOf.{at_most, some_buses, plant_fault, plant_names, plant_value, with_elements, plant_elements, sections_fault, study_fault, study_value, IsStudy, Refused};
 ghost use Rattle.study_model.specs.declared.limits.TheConstants.{MAX_NAMES, MAX_ALL_ELEMENTS};
 
 use crate::arrays::{Occurrence, array, known_sections};
-use crate::built::is_built;
 use crate::context::Context;
 use crate::elements::elements_of;
 use crate::entry::Entry;
@@ -234,23 +232,14 @@ fn study_in(alloc: Global, document: &Value) -> Result<Study, StudyFault>
     })
 }
 
-/// The study of a document where it is of the forms that are built.
-fn built_study(alloc: Global, document: &Value) -> Result<Study, StudyFault>
-    ensures read { ReadsInMemory result (first_fault (sections_fault (view document.now) ∷ unbuilt (study_value (view document.now)) ∷ [])) (study_value (view document.now)) }
-{
-    let study = study_in(alloc, document)?;
-    is_built(&study)?;
-    Ok(study)
-}
-
 /// The study of a document, or its first fault.
 #[tactic(auto, unfolding(crate::specs::StudyOf::study_fault))]
 fn study_of(alloc: Global, table: Table) -> Result<Study, StudyFault>
-    ensures built { IfOk result IsBuilt }
+    ensures lawful { IfOk result IsLawful }
     ensures read { ReadsInMemory result (study_fault (table_view table)) (study_value (table_data (table_view table))) }
 {
     known_sections(&table)?;
-    let study = built_study(alloc, &Value::Table(table))?;
+    let study = study_in(alloc, &Value::Table(table))?;
     Ok(study)
 }
 
@@ -271,13 +260,11 @@ fn fault_of(error: &toml::de::Error) -> StudyFault
 ///
 /// # Errors
 ///
-/// The first refusal in the order of the format, `NotBuilt` where there is none but the study is of a form that
-/// isn't built yet, and `NoMemory`.
+/// The first refusal in the order of the format, and `NoMemory`.
 pub fn read_study(alloc: Global, bytes: &[u8]) -> Result<Study, StudyFault>
     ensures study { IfOk result (IsStudy bytes.now) }
     ensures refused { IfErr result (λ fault. fault ≢ NoMemory → Refused bytes.now fault) }
     ensures lawful { IfOk result IsLawful }
-    ensures built { IfOk result IsBuilt }
 {
     let table = match toml::table_from_slice(alloc, bytes) {
         Ok(table) => table,
