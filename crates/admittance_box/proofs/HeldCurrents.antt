@@ -1,7 +1,6 @@
--- The terminal current of held voltages holds that of the exact state.
-use Rattle.std.proofs.Common.{◌≡◌, ◌∙◌, ℕ, zero, suc, arith, Bool, true, false, List, [], ◌∷◌, map, refl, sym, subst, Option}
-use Rattle.std.specs.Option.{option_map}
-use Rattle.std.specs.Prelude.{Some, None, IfSome, Contains, ◌==◌, ◌&&◌, ◌||◌, slice_get, if◌then◌else◌}
+-- From held voltages: what leaves a node into a branch of its own is held.
+use Rattle.std.proofs.Common.{◌≡◌, ◌∙◌, ℕ, zero, suc, arith, Bool, true, false, List, [], ◌∷◌, refl, sym, subst}
+use Rattle.std.specs.Prelude.{Some, Contains, ◌==◌, ◌&&◌, ◌||◌, slice_get, if◌then◌else◌}
 use Rattle.std.specs.List.{AllZip}
 use Rattle.exact_algebra.specs.Complex.{Complex, complex_numbers, real, complex_scaled}
 use Rattle.exact_algebra.proofs.Complexes.{complex_field}
@@ -14,39 +13,31 @@ use Rattle.complex_interval.proofs.Ranges.{range_encloses}
 use Rattle.network_theory.specs.Order.{Order, fraction}
 use Rattle.network_theory.specs.Branch.{Tap, Branch}
 use Rattle.network_theory.specs.Network.{Network}
-use Rattle.network_theory.specs.Live.{Live, HasLiveNode, itself}
+use Rattle.network_theory.specs.Live.{Live, HasLiveNode}
 use Rattle.network_theory.specs.Between.{TapUpTo, BranchUpTo}
-use Rattle.network_theory.specs.Reach.{has_in}
 use Rattle.network_theory.specs.State.{drop, leaving_by}
 use Rattle.network_theory.specs.Admittance.{IsAdmittance}
-use Rattle.network_theory.proofs.Laws.{law-current}
 use Rattle.network_theory.proofs.Numbers.{R, one_at, where_equal-is, one_at-apart}
-use Rattle.net_branch.specs.declared.network.Branch.{Branch as NetBranch}
-use Rattle.net_branch.specs.declared.network.Network.{Network as NetNetwork}
-use Rattle.net_branch.specs.Exact.{exact_branch, exact_network}
 use Rattle.plain_elimination.specs.Matrix.{nought_rectangle}
-use Rattle.admittance_box.specs.Current.{fold_pairs, tap_voltage, with_tap_voltage, branch_current, with_tap_current, with_branch, terminal_current}
-use Rattle.admittance_box.specs.Orders.{order_ends}
+use Rattle.admittance_box.specs.Current.{fold_pairs, tap_voltage, with_tap_voltage, branch_current, with_tap_current, is_at, with_branch}
 use Rattle.admittance_box.specs.Places.{place_of}
 use Rattle.admittance_box.specs.Steps.{◌>>=◌}
-use Rattle.admittance_box.specs.Terminal.{terminal_of, HoldsVoltages, HoldsTerminal}
+use Rattle.admittance_box.specs.Terminal.{HoldsVoltages}
 use Rattle.admittance_box.proofs.HeldEntries.{item_at}
 use Rattle.admittance_box.proofs.HeldMatrices.{law_held}
 use Rattle.admittance_box.proofs.HeldPairs.{along, scaled-is, tap_holds, plus-none}
 use Rattle.admittance_box.proofs.Laws.{nought_held}
-use Rattle.admittance_box.proofs.LivePairs.{live_up}
-use Rattle.admittance_box.proofs.Ranges.{order_encloses}
 use Rattle.admittance_box.proofs.Steps.{bind-some}
 open complex_numbers use {◌≈◌, nought, unit, ◌⊕◌, ◌⊗◌, minus}
 open complex_field use {same, back, next, add_same}
 
-abbrev C : Type 0
+abbrev pub C : Type 0
 C = Complex
 
-regroup : (a b c : C) → (a ⊕ b) ⊕ c ≈ a ⊕ (b ⊕ c)
+pub regroup : (a b c : C) → (a ⊕ b) ⊕ c ≈ a ⊕ (b ⊕ c)
 regroup a b c = ring R (a ∷ b ∷ c ∷ []) (search reads depth 40 fits 4000) none_left
 
-plain : (a : C) → nought ⊕ a ≈ a
+pub plain : (a : C) → nought ⊕ a ≈ a
 plain a = ring R (a ∷ []) (search reads depth 40 fits 4000) none_left
 
 -- ---- taps at a node
@@ -64,14 +55,14 @@ tap-apart t node I h = go (one_at t.node node) _ _ (where_equal-is t.node node (
     go : (o x w : C) → w ≈ o ⊗ x → o ≈ nought → w ≈ nought
     go o x w p q = linear R (o ∷ x ∷ w ∷ []) (join R (weigh R unit p) (weigh R x q)) (search reads depth 40 fits 4000) none_left
 
-is_node : (m n : ℕ) → (m == n) ≡ true → m ≡ n
+pub is_node : (m n : ℕ) → (m == n) ≡ true → m ≡ n
 is_node m n e = grind arith
 
-is_other : (m n : ℕ) → (m == n) ≡ false → ¬ (m ≡ n)
+pub is_other : (m n : ℕ) → (m == n) ≡ false → ¬ (m ≡ n)
 is_other m n e = grind arith
 
 -- where no tap of the one network is at the node, what leaves it by the other's is nought
-leaving-none : (node : ℕ) (I : C) (ts vs : List Tap) → AllZip TapUpTo ts vs → has_in (λ m. m == node) ts ≡ false → leaving_by vs I node ≈ nought
+pub leaving-none : (node : ℕ) (I : C) (ts vs : List Tap) → AllZip TapUpTo ts vs → is_at node ts ≡ false → leaving_by vs I node ≈ nought
 leaving-none node I [] [] z e = same _
 leaving-none node I [] (v ∷ vs) z e = absurd z
 leaving-none node I (t ∷ ts) [] z e = absurd z
@@ -90,12 +81,12 @@ leaving-none node I (t ∷ ts) (v ∷ vs) z e =
     both a b p q = linear R (a ∷ b ∷ []) (join R (weigh R unit p) (weigh R unit q)) (search reads depth 40 fits 4000) none_left
 
 -- and where one is, the other has one there
-tap_there : (node : ℕ) (ts vs : List Tap) → AllZip TapUpTo ts vs → has_in (λ m. m == node) ts ≡ true → (v : Tap) × Contains vs v × (v.node ≡ node)
+pub tap_there : (node : ℕ) (ts vs : List Tap) → AllZip TapUpTo ts vs → is_at node ts ≡ true → (v : Tap) × Contains vs v × (v.node ≡ node)
 tap_there node [] vs z e = absurd cc
 tap_there node (t ∷ ts) [] z e = absurd z
 tap_there node (t ∷ ts) (v ∷ vs) z e = go (t.node == node) refl e (λ h. tap_there node ts vs z.1 h)
   where
-    go : (b : Bool) → (t.node == node) ≡ b → (b || has_in (λ m. m == node) ts) ≡ true → (has_in (λ m. m == node) ts ≡ true → (w : Tap) × Contains vs w × (w.node ≡ node)) → (w : Tap) × Contains (v ∷ vs) w × (w.node ≡ node)
+    go : (b : Bool) → (t.node == node) ≡ b → (b || is_at node ts) ≡ true → (is_at node ts ≡ true → (w : Tap) × Contains vs w × (w.node ≡ node)) → (w : Tap) × Contains (v ∷ vs) w × (w.node ≡ node)
     go true q h more = (v, (0, omega arith, refl), sym z.0.node ∙ is_node t.node node q)
     go false q h more = let (w, k, at) = more h in (w, (suc k.0, omega (arith, k.1), k.2), at)
 
@@ -111,7 +102,7 @@ pub voltage_at : (s : ℕ) (V : ℕ → C) (ordering : List ℕ) (volts : List R
 voltage_at s V ordering volts n i v h p g = item_at (λ m x. EnclosesComplex s x (V m)) n ordering volts i v p g (volts_at s V ordering volts h)
 
 -- what is taken as it is
-kept : {X : Type 0} (a b : X) → Some a ≡ Some b → a ≡ b
+pub kept : {X : Type 0} (a b : X) → Some a ≡ Some b → a ≡ b
 kept a b e = grind arith
 
 module _ (s : ℕ) (ordering : List ℕ) (volts : List Rectangle) (V : ℕ → C) (held : HoldsVoltages s ordering volts V) where
@@ -123,7 +114,7 @@ module _ (s : ℕ) (ordering : List ℕ) (volts : List Rectangle) (V : ℕ → C
       along s r (complex_scaled (V v.node) v.ratio) (real v.ratio ⊗ V v.node) (scaled-is (V v.node) v.ratio)
       (scale_encloses_rectangle s x r tap.ratio (V v.node) v.ratio (voltage_at s V ordering volts v.node tap.place x held at.place e2) at.ratio e3)
 
-  drop_held : (ts us vs : List Tap) → AllZip TapUpTo ts vs → AllZip TapUpTo vs us → (sum r : Rectangle) (z : C) → EnclosesComplex s sum z → fold_pairs (with_tap_voltage s ordering volts) sum ts us ≡ Some r → EnclosesComplex s r (z ⊕ drop V vs)
+  pub drop_held : (ts us vs : List Tap) → AllZip TapUpTo ts vs → AllZip TapUpTo vs us → (sum r : Rectangle) (z : C) → EnclosesComplex s sum z → fold_pairs (with_tap_voltage s ordering volts) sum ts us ≡ Some r → EnclosesComplex s r (z ⊕ drop V vs)
   drop_held [] us [] a b sum r z h e = subst (λ q. EnclosesComplex s q (z ⊕ nought)) (kept sum r e) (along s sum z (z ⊕ nought) (plus-none z nought (same _)) h)
   drop_held [] us (v ∷ vs) a b sum r z h e = absurd a
   drop_held (t ∷ ts) us [] a b sum r z h e = absurd a
@@ -137,10 +128,10 @@ module _ (s : ℕ) (ordering : List ℕ) (volts : List Rectangle) (V : ℕ → C
       (drop_held ts us vs a.1 b.1 after r (z ⊕ real v.ratio ⊗ V v.node) summed e3)
 
   -- an exact current is that of each admittance at the drop
-  abbrev IsByAdmittance : Order → Branch → C → Type 0
+  abbrev pub IsByAdmittance : Order → Branch → C → Type 0
   IsByAdmittance h b I = (y : C) → IsAdmittance h b.law y → I ≈ y ⊗ drop V b.taps
 
-  branch_held : (ends : Ends) (h : Order) → Encloses s ends (fraction h) → (a c b : Branch) → BranchUpTo a b → BranchUpTo b c → (r : Rectangle) (I : C) → IsByAdmittance h b I → branch_current s ends ordering volts a c ≡ Some r → EnclosesComplex s r I
+  pub branch_held : (ends : Ends) (h : Order) → Encloses s ends (fraction h) → (a c b : Branch) → BranchUpTo a b → BranchUpTo b c → (r : Rectangle) (I : C) → IsByAdmittance h b I → branch_current s ends ordering volts a c ≡ Some r → EnclosesComplex s r I
   branch_held ends h ho a c b p q r I by e =
       let (law, e1, n1) = bind-some _ _ r e in
       let (admittance, e2, n2) = bind-some _ _ r n1 in
@@ -169,7 +160,7 @@ tap_current_held s node current I k t u v a b sum r z h e = go (t.node == node) 
         subst (λ x. EnclosesComplex s x (z ⊕ where_equal complex_numbers v.node node (real v.ratio ⊗ I))) (kept sum r f)
         (along s sum z (z ⊕ where_equal complex_numbers v.node node (real v.ratio ⊗ I)) (plus-none z (where_equal complex_numbers v.node node (real v.ratio ⊗ I)) (tap-apart v node I (λ i. is_other t.node node q (a.node ∙ i)))) h)
 
-leaving_held : (s node : ℕ) (current : Rectangle) (I : C) → EnclosesComplex s current I → (ts us vs : List Tap) → AllZip TapUpTo ts vs → AllZip TapUpTo vs us → (sum r : Rectangle) (z : C) → EnclosesComplex s sum z
+pub leaving_held : (s node : ℕ) (current : Rectangle) (I : C) → EnclosesComplex s current I → (ts us vs : List Tap) → AllZip TapUpTo ts vs → AllZip TapUpTo vs us → (sum r : Rectangle) (z : C) → EnclosesComplex s sum z
     → fold_pairs (with_tap_current s node current) sum ts us ≡ Some r → EnclosesComplex s r (z ⊕ leaving_by vs I node)
 leaving_held s node current I k [] us [] a b sum r z h e = subst (λ q. EnclosesComplex s q (z ⊕ nought)) (kept sum r e) (along s sum z (z ⊕ nought) (plus-none z nought (same _)) h)
 leaving_held s node current I k [] us (v ∷ vs) a b sum r z h e = absurd a
@@ -181,80 +172,46 @@ leaving_held s node current I k (t ∷ ts) (u ∷ us) (v ∷ vs) a b sum r z h e
     let one = tap_current_held s node current I k t u v a.0 b.0 sum after z h e1 in
     along s r ((z ⊕ at) ⊕ leaving_by vs I node) (z ⊕ (at ⊕ leaving_by vs I node)) (regroup z at (leaving_by vs I node)) (leaving_held s node current I k ts us vs a.1 b.1 after r (z ⊕ at) one e2)
 
--- ---- branches
-module _ (s : ℕ) (ordering : List ℕ) (volts : List Rectangle) (V : ℕ → C) (held : HoldsVoltages s ordering volts V) (ends : Ends) (h : Order) (ho : Encloses s ends (fraction h)) (network : Network) (owner node : ℕ) (live : Live network node) where
-  -- the exact currents of a list of branches: of each with a live node, that of its admittance
-  abbrev AreCurrents : List Branch → (ℕ → C) → Type 0
-  AreCurrents bs current = (i : ℕ) (b : Branch) → slice_get bs i ≡ Some b → HasLiveNode network b → IsByAdmittance s ordering volts V held h b (current i)
+-- ---- what leaves the node into a branch, where it is of the owner
+abbrev pub owned : ℕ → ℕ → Branch → C → C
+owned owner node b I = if b.owner == owner then leaving_by b.taps I node else nought
 
-  -- what leaves the node into a branch, where it is of the owner
-  abbrev owned : Branch → C → C
-  owned b I = if b.owner == owner then leaving_by b.taps I node else nought
+pub owned-none : (owner node : ℕ) (b : Branch) (I : C) → (b.owner ≡ owner → leaving_by b.taps I node ≈ nought) → owned owner node b I ≈ nought
+owned-none owner node b I f = go (b.owner == owner) refl
+  where
+    go : (t : Bool) → (b.owner == owner) ≡ t → (if t then leaving_by b.taps I node else nought) ≈ nought
+    go true q = f (is_node b.owner owner q)
+    go false q = same _
 
-  owned-none : (b : Branch) (I : C) → (b.owner ≡ owner → leaving_by b.taps I node ≈ nought) → owned b I ≈ nought
-  owned-none b I f = go (b.owner == owner) refl
-    where
-      go : (t : Bool) → (b.owner == owner) ≡ t → (if t then leaving_by b.taps I node else nought) ≈ nought
-      go true q = f (is_node b.owner owner q)
-      go false q = same _
+pub owned-all : (owner node : ℕ) (b : Branch) (I : C) → b.owner ≡ owner → owned owner node b I ≈ leaving_by b.taps I node
+owned-all owner node b I e = go (b.owner == owner) refl
+  where
+    go : (t : Bool) → (b.owner == owner) ≡ t → (if t then leaving_by b.taps I node else nought) ≈ leaving_by b.taps I node
+    go true q = same _
+    go false q = absurd (is_other b.owner owner q e)
 
-  owned-all : (b : Branch) (I : C) → b.owner ≡ owner → owned b I ≈ leaving_by b.taps I node
-  owned-all b I e = go (b.owner == owner) refl
-    where
-      go : (t : Bool) → (b.owner == owner) ≡ t → (if t then leaving_by b.taps I node else nought) ≈ leaving_by b.taps I node
-      go true q = same _
-      go false q = absurd (is_other b.owner owner q e)
+-- a sum that stays
+pub stays : (s : ℕ) (sum r : Rectangle) (z w : C) → w ≈ nought → EnclosesComplex s sum z → Some sum ≡ Some r → EnclosesComplex s r (z ⊕ w)
+stays s sum r z w n k f = subst (λ x. EnclosesComplex s x (z ⊕ w)) (kept sum r f) (along s sum z (z ⊕ w) (plus-none z w n) k)
 
-  one_held : (a c b : Branch) → BranchUpTo a b → BranchUpTo b c → (I : C) → (HasLiveNode network b → IsByAdmittance s ordering volts V held h b I) → (sum r : Rectangle) (z : C) → EnclosesComplex s sum z
-      → with_branch s ends ordering volts owner node sum a c ≡ Some r → EnclosesComplex s r (z ⊕ owned b I)
-  one_held a c b p q I by sum r z k e = go (a.owner == owner) (has_in (λ m. m == node) a.taps) refl refl e
-    where
-      nothing : owned b I ≈ nought → Some sum ≡ Some r → EnclosesComplex s r (z ⊕ owned b I)
-      nothing n f = subst (λ x. EnclosesComplex s x (z ⊕ owned b I)) (kept sum r f) (along s sum z (z ⊕ owned b I) (plus-none z (owned b I) n) k)
+-- a tap of the one network at a live node is a live node of the branch between
+pub live_at : (network : Network) (node : ℕ) → Live network node → (l b : Branch) → BranchUpTo l b → is_at node l.taps ≡ true → HasLiveNode network b
+live_at network node live l b p j =
+    let (tap, has, at) = tap_there node l.taps b.taps p.taps j in
+    record { tap = tap; has = has; live = subst (Live network) (sym at) live }
 
-      go : (t u : Bool) → (a.owner == owner) ≡ t → has_in (λ m. m == node) a.taps ≡ u
-          → (if t && u then branch_current s ends ordering volts a c >>= (λ current. fold_pairs (with_tap_current s node current) sum a.taps c.taps) else Some sum) ≡ Some r → EnclosesComplex s r (z ⊕ owned b I)
-      go true true i j f =
-          let (current, e1, e2) = bind-some _ _ r f in
-          let (tap, has, at) = tap_there node a.taps b.taps p.taps j in
-          let there : HasLiveNode network b = record { tap = tap; has = has; live = subst (Live network) (sym at) live } in
-          let own : b.owner ≡ owner = sym p.owner ∙ is_node a.owner owner i in
-          let now = branch_held s ordering volts V held ends h ho a c b p q current I (by there) e1 in
-          along s r (z ⊕ leaving_by b.taps I node) (z ⊕ owned b I) (add_same (same z) (back (owned-all b I own))) (leaving_held s node current I now a.taps c.taps b.taps p.taps q.taps sum r z k e2)
-      go true false i j f = nothing (owned-none b I (λ o. leaving-none node I a.taps b.taps p.taps j)) f
-      go false u i j f = nothing (owned-none b I (λ o. absurd (is_other a.owner owner i (p.owner ∙ o)))) f
-
-  branches_held : (ls hs bs : List Branch) → AllZip BranchUpTo ls bs → AllZip BranchUpTo bs hs → (current : ℕ → C) → AreCurrents bs current → (sum r : Rectangle) (z : C) → EnclosesComplex s sum z
-      → fold_pairs (with_branch s ends ordering volts owner node) sum ls hs ≡ Some r → EnclosesComplex s r (z ⊕ terminal_of owner bs current node)
-  branches_held [] hs [] p q current are sum r z k e = subst (λ x. EnclosesComplex s x (z ⊕ nought)) (kept sum r e) (along s sum z (z ⊕ nought) (plus-none z nought (same _)) k)
-  branches_held [] hs (b ∷ bs) p q current are sum r z k e = absurd p
-  branches_held (l ∷ ls) hs [] p q current are sum r z k e = absurd p
-  branches_held (l ∷ ls) [] (b ∷ bs) p q current are sum r z k e = absurd q
-  branches_held (l ∷ ls) (c ∷ hs) (b ∷ bs) p q current are sum r z k e =
-      let (after, e1, e2) = bind-some _ _ r e in
-      let one = one_held l c b p.0 q.0 (current 0) (are 0 b refl) sum after z k e1 in
-      along s r ((z ⊕ owned b (current 0)) ⊕ terminal_of owner bs (λ i. current (suc i)) node) (z ⊕ (owned b (current 0) ⊕ terminal_of owner bs (λ i. current (suc i)) node))
-      (regroup z (owned b (current 0)) (terminal_of owner bs (λ i. current (suc i)) node))
-      (branches_held ls hs bs p.1 q.1 (λ i. current (suc i)) (λ i o g. are (suc i) o g) after r (z ⊕ owned b (current 0)) one e2)
-
--- the terminal current of a pair over a box holds that of each network between the two at each order of the box
-pub terminal_held : (s : ℕ) (low high : Network) (ordering : List ℕ) (lo hi owner node : ℕ) (volts : List Rectangle) (r : Rectangle) → Live low node → terminal_current s low high ordering lo hi owner node volts ≡ Some r → HoldsTerminal s low high ordering lo hi owner node volts r
-unfolding terminal_current
-terminal_held s low high ordering lo hi owner node volts r l e h i lies network between J state exact held =
-    along s r (nought ⊕ terminal_of owner network.branches state.current node) (terminal_of owner network.branches state.current node) (plain (terminal_of owner network.branches state.current node))
-    (branches_held s ordering volts state.voltage held (order_ends s lo hi) h (order_encloses s lo hi h i lies) network owner node (live_up low network between.from_low node l) low.branches high.branches network.branches
-    between.from_low.branches between.to_high.branches state.current
-    (λ j b g has y is. law-current b.law h y state.current j (drop state.voltage b.taps) is (exact.laws j b g (itself has)))
-    nought_rectangle r nought (nought_held s) e)
-
--- ---- in the form of the code's clauses
-pub current_stated : (s : ℕ) (low high : Network) (low' high' : NetNetwork) (ls hs : List NetBranch) (ordering slice : List ℕ) (ends : Ends) (lo hi owner node : ℕ) (volts : List Rectangle) (result : Option Rectangle) → exact_network low' ≡ low → exact_network high' ≡ high
-    → ls ≡ low'.branches → hs ≡ high'.branches → slice ≡ ordering → ends ≡ order_ends s lo hi → result ≡ fold_pairs (with_branch s ends slice volts owner node) nought_rectangle (map exact_branch ls) (map exact_branch hs)
-    → result ≡ terminal_current s low high ordering lo hi owner node volts
-unfolding terminal_current
-current_stated s low high low' high' ls hs ordering slice ends lo hi owner node volts result a b p q f e h = rw (← a, ← b, ← p, ← q, ← f, ← e) h
-
-pub current_holds : {X : Type 0} (f : X → Rectangle) (o : Option X) (s : ℕ) (low high : Network) (ordering : List ℕ) (lo hi owner node : ℕ) (volts : List Rectangle) → Live low node → option_map f o ≡ terminal_current s low high ordering lo hi owner node volts
-    → IfSome o (λ i. HoldsTerminal s low high ordering lo hi owner node volts (f i))
-current_holds f (Some i) s low high ordering lo hi owner node volts l e = terminal_held s low high ordering lo hi owner node volts (f i) l (sym e)
-current_holds f None s low high ordering lo hi owner node volts l e = tt
+-- a branch of its own
+pub one_held : (s : ℕ) (ordering : List ℕ) (volts : List Rectangle) (V : ℕ → C) (held : HoldsVoltages s ordering volts V) (ends : Ends) (h : Order) → Encloses s ends (fraction h) → (network : Network) (owner node : ℕ) → Live network node
+    → (a c b : Branch) → BranchUpTo a b → BranchUpTo b c → (I : C) → (HasLiveNode network b → IsByAdmittance s ordering volts V held h b I) → (sum r : Rectangle) (z : C) → EnclosesComplex s sum z
+    → with_branch s ends ordering volts owner node sum a c ≡ Some r → EnclosesComplex s r (z ⊕ owned owner node b I)
+one_held s ordering volts V held ends h ho network owner node live a c b p q I by sum r z k e = go (a.owner == owner) (is_at node a.taps) refl refl e
+  where
+    go : (t u : Bool) → (a.owner == owner) ≡ t → is_at node a.taps ≡ u
+        → (if t && u then branch_current s ends ordering volts a c >>= (λ current. fold_pairs (with_tap_current s node current) sum a.taps c.taps) else Some sum) ≡ Some r → EnclosesComplex s r (z ⊕ owned owner node b I)
+    go true true i j f =
+        let (current, e1, e2) = bind-some _ _ r f in
+        let own : b.owner ≡ owner = sym p.owner ∙ is_node a.owner owner i in
+        let now = branch_held s ordering volts V held ends h ho a c b p q current I (by (live_at network node live a b p j)) e1 in
+        along s r (z ⊕ leaving_by b.taps I node) (z ⊕ owned owner node b I) (add_same (same z) (back (owned-all owner node b I own))) (leaving_held s node current I now a.taps c.taps b.taps p.taps q.taps sum r z k e2)
+    go true false i j f = stays s sum r z (owned owner node b I) (owned-none owner node b I (λ o. leaving-none node I a.taps b.taps p.taps j)) k f
+    go false u i j f = stays s sum r z (owned owner node b I) (owned-none owner node b I (λ o. absurd (is_other a.owner owner i (p.owner ∙ o)))) k f

@@ -50,7 +50,7 @@ part-nought a b c n k =
 
 -- ---- values
 -- the intervals from one law to the other hold the values of the law between
-law_coupling_held : (s : ℕ) (l u v : Law) (p : CouplingEnds) (place : ℕ) (c : Coupling) → LawUpTo l v → LawUpTo v u → v ≡ Coupled3 place c → law_coupling s l u ≡ Some p → HoldsCoupling s p c
+pub law_coupling_held : (s : ℕ) (l u v : Law) (p : CouplingEnds) (place : ℕ) (c : Coupling) → LawUpTo l v → LawUpTo v u → v ≡ Coupled3 place c → law_coupling s l u ≡ Some p → HoldsCoupling s p c
 law_coupling_held s l u v p place c a b is e = go l u (subst (λ w. LawUpTo l w) is a) (subst (λ w. LawUpTo w u) is b) e
   where
     go : (l u : Law) → LawUpTo l (Coupled3 place c) → LawUpTo (Coupled3 place c) u → law_coupling s l u ≡ Some p → HoldsCoupling s p c

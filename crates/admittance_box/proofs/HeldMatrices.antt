@@ -92,7 +92,7 @@ uncoupled_up a b p u = go a.law b.law p.law u
     go (Coupled3 place c) v q h = absurd h
 
 -- the places of the branches of a network between are those of the one below it
-place_alone : (l b : Branch) → BranchUpTo l b → IsUncoupled b → place_in_group l.law ≡ None
+pub place_alone : (l b : Branch) → BranchUpTo l b → IsUncoupled b → place_in_group l.law ≡ None
 place_alone l b p u = go l.law b.law p.law u
   where
     go : (x y : Law) → LawUpTo x y → elim y as (λ z. Type 0) [ Series r k m x xc ↦ b.group ≡ 0 | Shunt y ↦ b.group ≡ 0 | Coupled3 place c ↦ ⊥ ] → place_in_group x ≡ None
@@ -102,7 +102,7 @@ place_alone l b p u = go l.law b.law p.law u
     go (Coupled3 place c) (Shunt y) q h = absurd q
     go (Coupled3 place c) (Coupled3 place' c') q h = absurd h
 
-place_of_group : (l b : Branch) (place : ℕ) → BranchUpTo l b → HasPlace b place → place_in_group l.law ≡ Some place
+pub place_of_group : (l b : Branch) (place : ℕ) → BranchUpTo l b → HasPlace b place → place_in_group l.law ≡ Some place
 place_of_group l b place p has = go l.law (subst (LawUpTo l.law) has.law p.law)
   where
     go : (x : Law) → LawUpTo x (Coupled3 place has.values) → place_in_group x ≡ Some place

@@ -7,10 +7,12 @@ pub mod Groups
 pub mod HeldCouplings
 pub mod HeldCurrents
 pub mod HeldEntries
+pub mod HeldGroupCurrents
 pub mod HeldGroups
 pub mod HeldMatrices
 pub mod HeldPairs
 pub mod HeldTaps
+pub mod HeldTerminals
 pub mod Laws
 pub mod LivePairs
 pub mod LivePlaces

@@ -1,4 +1,4 @@
--- The values of a group and its impedances, as the program holds them.
+-- The values of a group, its impedances and its drops, as the program holds them.
 use Rattle.exact_fraction.specs.Fraction.{ratio_of}
 use Rattle.complex_interval.specs.Ends.{Ends}
 use Rattle.complex_interval.specs.Rect.{rectangle_of}
@@ -6,7 +6,9 @@ use Rattle.network_theory.specs.Branch.{Coupling}
 use Rattle.admittance_box.specs.declared.coupling.CouplingIntervals.{CouplingIntervals}
 use Rattle.admittance_box.specs.declared.coupling.CouplingValues.{CouplingValues}
 use Rattle.admittance_box.specs.declared.coupling.ImpedanceIntervals.{ImpedanceIntervals}
+use Rattle.admittance_box.specs.declared.group_current.GroupDrops.{GroupDrops}
 use Rattle.admittance_box.specs.Coupling.{CouplingEnds, Impedances}
+use Rattle.admittance_box.specs.Current.{Drops}
 
 -- the exact values
 abbrev pub coupling_of : CouplingValues → Coupling
@@ -38,3 +40,7 @@ coupling_ends ends c = record {
 -- the rectangles of the impedances
 abbrev pub impedance_ends : {E : Type 0} → (E → Ends) → ImpedanceIntervals E → Impedances
 impedance_ends ends z = record { own = rectangle_of ends z.own; ab = rectangle_of ends z.ab; bc = rectangle_of ends z.bc; ca = rectangle_of ends z.ca }
+
+-- the rectangles of the drops
+abbrev pub drop_ends : {E : Type 0} → (E → Ends) → GroupDrops E → Drops
+drop_ends ends d = record { first = rectangle_of ends d.first; second = rectangle_of ends d.second; third = rectangle_of ends d.third }

@@ -1,5 +1,7 @@
 // The assembly of the nodal matrix of a pair of networks over a box of orders.
 ghost use Rattle.std.specs.Prelude.{◌≡◌, ◌≤◌, ◌<◌, ◌↔◌, IfOk, IfSome, IsSome, length, Some, slice_get};
+ghost use Rattle.std.specs.Option.{option_map};
+ghost use Rattle.complex_interval.specs.Rect.{rectangle_of};
 ghost use Rattle.network_theory.specs.Live.{Live};
 ghost use Rattle.network_theory.specs.Between.{IsPair};
 ghost use Rattle.network_theory.specs.Nodal.{ListsLive};
@@ -8,9 +10,11 @@ ghost use Rattle.net_branch.specs.Exact.{exact_network};
 ghost use Rattle.net_branch.specs.Whole.{IsWholeNetwork};
 ghost use Rattle.admittance_box.specs.Assembled.{Assembled, IsMade};
 ghost use Rattle.admittance_box.specs.BoxMatrix.{box_matrix};
+ghost use Rattle.admittance_box.specs.Current.{terminal_current};
 ghost use Rattle.admittance_box.specs.Filled.{FillsAs};
 ghost use Rattle.admittance_box.specs.HeldMatrix.{CanAssemble, HoldsEach};
 ghost use Rattle.admittance_box.specs.Pattern.{IsPattern};
+ghost use Rattle.admittance_box.specs.Terminal.{HoldsTerminal};
 ghost use Rattle.admittance_box.specs.declared.fill.Fill.TheVariants.{Filled};
 
 use crate::branches::branches_between;
@@ -22,9 +26,10 @@ use crate::node_ordering::order_nodes;
 use crate::orders::order_range;
 use crate::spots::pattern_of;
 use crate::taps::find_place;
-use complex_interval::Enclosure;
+use crate::terminal::sum_of_branches;
+use complex_interval::{Enclosure, Rect};
 use net_branch::{Network, NodeId, live};
-use plain_elimination::{Matrix, Pattern};
+use plain_elimination::{Column, Matrix, Pattern};
 use std::alloc::{AllocError, Global};
 use std::marker::Model;
 
@@ -158,5 +163,36 @@ impl<E: Enclosure> Assembly<E> {
         let order = order_range(lo, hi);
         matrix.clear();
         add_branches(self.branches.as_slice(), order, &mut self.bench, matrix)
+    }
+    /// The terminal current, in per unit, of the element of this owner's number at a live node, over the orders from `lo` to `hi`, in
+    /// micro-orders: what leaves the node into the element's branches. `volts` are the voltages of the live nodes in the assembly's
+    /// ordering. Only the branches with a tap at the node count, and a group where one of its branches has a tap there; of an element
+    /// without one the current is 0. None exactly where a step has no value. It takes no memory.
+    pub fn current(
+        &mut self,
+        lo: u32,
+        hi: u32,
+        owner: u32,
+        node: NodeId,
+        volts: &Column<E>,
+    ) -> Option<Rect<E>>
+        requires ordered { lo ≤ hi }
+        requires live { Live self.old.low node.number }
+        requires size { length volts.now ≡ length self.old.ordering }
+        ensures stated { option_map (rectangle_of E.ends) result ≡ terminal_current E.SCALE self.old.low self.old.high self.old.ordering lo hi owner node.number volts.now }
+        ensures holds { IfSome result (λ i. HoldsTerminal E.SCALE self.old.low self.old.high self.old.ordering lo hi owner node.number volts.now (rectangle_of E.ends i)) }
+        ensures unchanged { self.new ≡ self.old }
+    {
+        let order = order_range(lo, hi);
+        sum_of_branches(
+            self.ordering.as_slice(),
+            volts,
+            order,
+            owner,
+            node.number,
+            self.low.branches.as_slice(),
+            self.high.branches.as_slice(),
+            &mut self.bench,
+        )
     }
 }

@@ -1,24 +1,19 @@
-// The terminal current of an element at a node, from the voltages of the nodes.
-ghost use Rattle.std.specs.Prelude.{◌≡◌, ◌≤◌, ◌==◌, ◌&&◌, IfSome, length, map};
+// The current of a branch from the voltages of the nodes, and what leaves a node into it.
+ghost use Rattle.std.specs.Prelude.{◌≡◌, ◌≤◌, ◌==◌, ◌&&◌, length, map};
 ghost use Rattle.std.specs.List.{AllZip};
 ghost use Rattle.std.specs.Option.{option_map};
 ghost use Rattle.complex_interval.specs.Rect.{rectangle_of};
 ghost use Rattle.network_theory.specs.Between.{TapUpTo, BranchUpTo};
-ghost use Rattle.network_theory.specs.Live.{Live};
-ghost use Rattle.network_theory.specs.Reach.{has_in};
 ghost use Rattle.net_branch.specs.Exact.{exact_branch, exact_tap};
-ghost use Rattle.admittance_box.specs.Current.{fold_pairs, tap_voltage, with_tap_voltage, drop_between, branch_current, with_tap_current, with_branch, terminal_current};
-ghost use Rattle.admittance_box.specs.Terminal.{HoldsTerminal};
+ghost use Rattle.admittance_box.specs.Current.{fold_pairs, tap_voltage, with_tap_voltage, drop_between, branch_current, with_tap_current, is_at, with_branch};
 ghost use Rattle.plain_elimination.specs.Matrix.{nought_rectangle};
 ghost use Rattle.plain_elimination.specs.declared.limits.TheConstants.{MAX_SIZE};
 
-use crate::assembly::Assembly;
 use crate::exact::exact_zero;
 use crate::intervals::LawIntervals;
-use crate::orders::order_range;
 use crate::taps::placed_tap;
 use complex_interval::{Enclosure, Rect};
-use net_branch::{Branch, NodeId, Tap};
+use net_branch::{Branch, Tap};
 use plain_elimination::Column;
 
 // The ratio of a tap times the voltage of its node. None where a step has no value.
@@ -53,8 +48,8 @@ fn with_tap_voltage<E: Enclosure>(
     sum.add(tap_voltage(ordering, volts, low, high)?)
 }
 
-// The drop of a branch: the sum over its taps. None where a step has no value.
-fn drop_of<E: Enclosure>(
+/// The drop of a branch: the sum over its taps. None where a step has no value.
+pub fn drop_of<E: Enclosure>(
     ordering: &[u32],
     volts: &Column<E>,
     low: &[Tap],
@@ -73,8 +68,8 @@ fn drop_of<E: Enclosure>(
     Some(sum)
 }
 
-// The zero that a sum begins with.
-fn zero_rectangle<E: Enclosure>() -> Rect<E>
+/// The zero that a sum begins with.
+pub fn zero_rectangle<E: Enclosure>() -> Rect<E>
     ensures { rectangle_of E.ends result ≡ nought_rectangle }
 {
     Rect {
@@ -121,8 +116,8 @@ fn with_tap_current<E: Enclosure>(
     }
 }
 
-// The sum with what leaves the node into a branch of this current. None where a step has no value.
-fn with_leaving<E: Enclosure>(
+/// The sum with what leaves the node into a branch of this current. None where a step has no value.
+pub fn with_leaving<E: Enclosure>(
     sum: Rect<E>,
     node: u32,
     current: Rect<E>,
@@ -141,9 +136,9 @@ fn with_leaving<E: Enclosure>(
     Some(sum)
 }
 
-// Whether some tap is at the node.
-fn is_at(taps: &[Tap], node: u32) -> bool
-    ensures { result ≡ has_in (λ m. m == node) (map exact_tap taps.now) }
+/// Whether some tap is at the node.
+pub fn is_at(taps: &[Tap], node: u32) -> bool
+    ensures { result ≡ is_at node (map exact_tap taps.now) }
 {
     for tap in taps {
         if tap.node.number == node {
@@ -155,13 +150,14 @@ fn is_at(taps: &[Tap], node: u32) -> bool
 
 // Whether a branch is of the owner and has a tap at the node.
 fn is_owned_at(branch: &Branch, owner: u32, node: u32) -> bool
-    ensures { result ≡ ((exact_branch branch.now).owner == owner && has_in (λ m. m == node) (exact_branch branch.now).taps) }
+    ensures { result ≡ ((exact_branch branch.now).owner == owner && is_at node (exact_branch branch.now).taps) }
 {
     branch.owner == owner && is_at(branch.taps.as_slice(), node)
 }
 
-// The sum with what leaves the node into a branch, where that is of the owner and has a tap there. None where a step has no value.
-fn with_branch<E: Enclosure>(
+/// The sum with what leaves the node into a branch of its own, where that is of the owner and has a tap there. None where a step has no
+/// value.
+pub fn with_branch<E: Enclosure>(
     sum: Rect<E>,
     ordering: &[u32],
     volts: &Column<E>,
@@ -188,61 +184,4 @@ fn with_branch<E: Enclosure>(
         low.taps.as_slice(),
         high.taps.as_slice(),
     )
-}
-
-// The sum of what leaves the node into the branches of the owner. None where a step has no value.
-fn sum_of_branches<E: Enclosure>(
-    ordering: &[u32],
-    volts: &Column<E>,
-    order: E,
-    owner: u32,
-    node: u32,
-    low: &[Branch],
-    high: &[Branch],
-) -> Option<Rect<E>>
-    requires few { length ordering.now ≤ MAX_SIZE }
-    requires size { length volts.now ≡ length ordering.now }
-    requires ordered { AllZip BranchUpTo (map exact_branch low.now) (map exact_branch high.now) }
-    ensures { option_map (rectangle_of E.ends) result
-        ≡ fold_pairs (with_branch E.SCALE (E.ends order) ordering.now volts.now owner node) nought_rectangle (map exact_branch low.now) (map exact_branch high.now) }
-{
-    let mut sum = zero_rectangle();
-    for i in 0..low.len() {
-        let next = with_branch(sum, ordering, volts, order, owner, node, &low[i], &high[i])?;
-        sum = next;
-    }
-    Some(sum)
-}
-
-impl<E: Enclosure> Assembly<E> {
-    /// The terminal current, in per unit, of the element of this owner's number at a live node, over the orders from `lo` to `hi`, in
-    /// micro-orders: what leaves the node into the element's branches. `volts` are the voltages of the live nodes in the assembly's
-    /// ordering. Only the branches with a tap at the node count; of an element without one the current is 0. None exactly where a step
-    /// has no value. It takes no memory.
-    pub fn current(
-        &mut self,
-        lo: u32,
-        hi: u32,
-        owner: u32,
-        node: NodeId,
-        volts: &Column<E>,
-    ) -> Option<Rect<E>>
-        requires ordered { lo ≤ hi }
-        requires live { Live self.old.low node.number }
-        requires size { length volts.now ≡ length self.old.ordering }
-        ensures stated { option_map (rectangle_of E.ends) result ≡ terminal_current E.SCALE self.old.low self.old.high self.old.ordering lo hi owner node.number volts.now }
-        ensures holds { IfSome result (λ i. HoldsTerminal E.SCALE self.old.low self.old.high self.old.ordering lo hi owner node.number volts.now (rectangle_of E.ends i)) }
-        ensures unchanged { self.new ≡ self.old }
-    {
-        let order = order_range(lo, hi);
-        sum_of_branches(
-            self.ordering(),
-            volts,
-            order,
-            owner,
-            node.number,
-            self.low().branches.as_slice(),
-            self.high().branches.as_slice(),
-        )
-    }
 }

@@ -9,6 +9,7 @@ mod current;
 mod exact;
 mod fill;
 mod group_bench;
+mod group_current;
 mod group_taps;
 mod intervals;
 mod nodal_laws;
@@ -19,6 +20,7 @@ mod shunt;
 mod skin;
 mod spots;
 mod taps;
+mod terminal;
 
 pub use assembly::Assembly;
 pub use coupling::{CouplingIntervals, CouplingValues};

@@ -7,7 +7,6 @@ ghost use Rattle.net_branch.specs.LiveNodes.{AreLive};
 ghost use Rattle.net_branch.specs.Whole.{IsWholeNetwork};
 ghost use Rattle.node_injection.specs.Injected.{exact_injection, injected};
 ghost use Rattle.admittance_box.specs.BoxMatrix.{box_matrix};
-ghost use Rattle.admittance_box.specs.HeldMatrix.{HasNoGroup};
 ghost use Rattle.admittance_box.specs.Pattern.{IsPattern};
 ghost use Rattle.plain_elimination.specs.Rectangles.{solve_rectangles};
 ghost use Rattle.distortion_bounds.specs.Solved.{IsSolvedFor, HoldsVoltageSquare, HoldsCurrentSquare};
@@ -129,11 +128,9 @@ fn solve_order<E: Enclosure>(
 }
 
 impl<E: Enclosure> OrderSolver<E> {
-    /// A solver of a network of which some node is live, with the live node of the greatest number driven. No branch may belong to a
-    /// group of three yet.
+    /// A solver of a network of which some node is live, with the live node of the greatest number driven.
     pub fn new(alloc: Global, network: &Network) -> Result<OrderSolver<E>, AllocError>
         requires whole { IsWholeNetwork network.now }
-        requires no_group { HasNoGroup (exact_network network.now) }
         requires some { HasLiveNode (exact_network network.now) }
         ensures { IfOk result (λ s. s ≡ new_solver (exact_network network.now)) }
     {
