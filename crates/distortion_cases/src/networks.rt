@@ -1,0 +1,112 @@
+// Networks of reactances and capacitors, a table of parts each.
+ghost use Rattle.std.specs.Prelude.{◌≤◌, IfOk};
+ghost use Rattle.network_theory.specs.Live.{Live};
+ghost use Rattle.network_theory.specs.Network.{IsUncoupled};
+ghost use Rattle.net_branch.specs.Exact.{exact_branch, exact_network};
+ghost use Rattle.net_branch.specs.Whole.{IsWholeNetwork};
+ghost use Rattle.admittance_box.specs.HeldMatrix.{HasNoGroup};
+
+use exact_fraction::Fraction;
+use net_branch::{Branch, Law, NetFault, Network, NodeId, Tap, live, new_network, push_branch};
+use sqlite_items::Items;
+use std::alloc::Global;
+use std::test::Fail;
+
+pub const ZERO: Fraction = Fraction { num: 0, den: 1 };
+
+pub const ONE: Fraction = Fraction { num: 1, den: 1 };
+
+const MINUS_ONE: Fraction = Fraction { num: -1, den: 1 };
+
+/// A reactance x at order 1 and a capacitive one, in series, of an element of this number: from a node, with a ratio there, to another node or to
+/// ground.
+#[derive(Clone, Copy)]
+pub struct Part {
+    pub owner: u32,
+    pub from: u32,
+    pub ratio: Fraction,
+    pub to: Option<u32>,
+    pub x: Fraction,
+    pub xc: Fraction,
+}
+
+/// A reactance from a node to ground.
+pub const fn grounded(owner: u32, from: u32, x: Fraction) -> Part {
+    Part {
+        owner,
+        from,
+        ratio: ONE,
+        to: None,
+        x,
+        xc: ZERO,
+    }
+}
+
+fn tap(number: u32, ratio: Fraction) -> Tap {
+    Tap {
+        node: NodeId { number },
+        ratio,
+    }
+}
+
+fn taps_of(alloc: Global, part: &Part) -> Result<Items<Tap>, Fail> {
+    let from = tap(part.from, part.ratio);
+    match part.to {
+        Some(to) => Ok(Items::from_slice(alloc, &[from, tap(to, MINUS_ONE)])?),
+        None => Ok(Items::from_slice(alloc, &[from])?),
+    }
+}
+
+fn branch_of(alloc: Global, part: &Part) -> Result<Branch, Fail>
+    ensures { IfOk result (λ branch. IsUncoupled (exact_branch branch)) }
+{
+    Ok(Branch {
+        taps: taps_of(alloc, part)?,
+        law: Law::Series {
+            r: ZERO,
+            k: ZERO,
+            m: ONE,
+            x: part.x,
+            xc: part.xc,
+        },
+        group: 0,
+        owner: part.owner,
+    })
+}
+
+#[tactic(auto, using(net_branch::proofs::Wholes::uncoupled_next, net_branch::proofs::Wholes::uncoupled_grouped, net_branch::proofs::Wholes::whole_growing, admittance_box::proofs::Groups::none_more))]
+fn push(alloc: Global, network: &mut Network, branch: Branch) -> Result<(), NetFault>
+    requires whole { IsWholeNetwork network.old }
+    requires uncoupled { IsUncoupled (exact_branch branch) }
+    ensures whole { IsWholeNetwork network.new }
+    ensures no_group { HasNoGroup (exact_network network.old) → HasNoGroup (exact_network network.new) }
+{
+    push_branch(alloc, network, branch)?;
+    Ok(())
+}
+
+/// So many buses with these parts.
+pub fn network_of(alloc: Global, buses: u32, parts: &[Part]) -> Result<Network, Fail>
+    requires { buses ≤ 400 }
+    ensures whole { IfOk result IsWholeNetwork }
+    ensures no_group { IfOk result (λ network. HasNoGroup (exact_network network)) }
+{
+    let mut network = new_network(alloc, buses)?;
+    for part in parts {
+        push(alloc, &mut network, branch_of(alloc, part)?)?;
+    }
+    Ok(network)
+}
+
+/// The node of this number, which must be live.
+pub fn live_node(alloc: Global, network: &Network, number: u32) -> Result<NodeId, Fail>
+    requires { IsWholeNetwork network.now }
+    ensures { IfOk result (λ node. Live (exact_network network.now) node.number) }
+{
+    let marks = live(alloc, network)?;
+    if number < network.nodes && marks[number as usize] {
+        Ok(NodeId { number })
+    } else {
+        Err("dead".into())
+    }
+}
