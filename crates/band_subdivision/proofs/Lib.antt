@@ -22,3 +22,4 @@ pub mod Enclosures
 pub mod PairSound
 pub mod Filled
 pub mod Curves
+pub mod UnfedScans

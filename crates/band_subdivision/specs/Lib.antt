@@ -13,6 +13,7 @@ pub mod ScanSpec
 pub mod Testing
 pub mod Scan
 pub mod Truth
+pub mod Unfed
 pub mod PairTruth
 pub mod BoxText
 pub mod WorkedBounds

@@ -17,6 +17,7 @@ mod scan_spec;
 mod second_bench;
 mod size_test;
 mod stack;
+mod unfed;
 
 pub use scan::Scan;
 pub use scan_levels::ScanLevels;

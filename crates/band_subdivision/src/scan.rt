@@ -13,12 +13,14 @@ ghost use Rattle.band_subdivision.specs.PairTruth.{IsClearForEach, IsAboveForEac
 ghost use Rattle.band_subdivision.specs.Scan.{IsScanOf, test_of, whole_list};
 ghost use Rattle.band_subdivision.specs.ScanSpec.{IsScanSpec};
 ghost use Rattle.band_subdivision.specs.Testing.{bench_for};
+ghost use Rattle.band_subdivision.specs.Unfed.{IsUnfed};
 
 use crate::boxes::settle;
 use crate::pair_test::PairTest;
 use crate::scan_spec::{ScanSpec, Tested};
 use crate::second_bench::{SecondBench, new_bench};
 use crate::stack::Stack;
+use crate::unfed::without_value;
 use admittance_box::Assembly;
 use complex_interval::Enclosure;
 use exact_fraction::Fraction;
@@ -116,6 +118,15 @@ impl<E: Enclosure> Scan<E> {
         ensures { IfOk result (λ s. IsScanOf E.SCALE (exact_network network.now) (exact_network network.now) driven.number spec s) }
     {
         Scan::between(alloc, network, network, driven, spec)
+    }
+
+    /// The scan of a node that isn't live: its test passes on no box, whatever the extra susceptance. (This project's own.)
+    pub fn unfed(alloc: Global, spec: ScanSpec) -> Result<Scan<E>, AllocError>
+        requires { IsScanSpec spec }
+        ensures { IfOk result (λ s. IsUnfed E.SCALE spec s) }
+    {
+        let network = without_value(alloc)?;
+        Scan::new(alloc, &network, NodeId { number: 0 }, spec)
     }
 
     /// Begins anew with this extra susceptance, in per unit at order 1, in place of the one before. Condition: it is at least 0.

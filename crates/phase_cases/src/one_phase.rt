@@ -1,16 +1,25 @@
-// What a study of three phases alone has: elements with a phase, of three times their powers.
-ghost use Rattle.std.specs.Prelude.{◌≡◌, length, IfOk};
-ghost use Rattle.study_model.specs.Lawful.{IsName, IsLawful};
+// What a study of three phases alone has: elements with a phase, of three times their powers, and lines with mutual reactances.
+ghost use Rattle.std.specs.Prelude.{◌≡◌, IsTrue, IfOk, length, option_map, slice_get};
+ghost use Rattle.study_model.specs.Lawful.{IsName, IsLawful, HaveEqualKv};
 ghost use Rattle.study_model.specs.declared.words.StudyModel.TheVariants as study_model;
 
-use crate::expected::Wanted::{Between, ToGround};
+use crate::expected::Wanted::{Between, GroupBetween, ToGround};
 use crate::expected::{Values, assert_network, study_with};
 use fixed_decimal::Decimal;
+use line_pi::add_line_phases;
 use load_filter_model::{add_bank_phases, add_filter_phases, add_load_phases};
 use net_branch::{Network, new_network};
 use std::alloc::Global;
 use std::test::Fail;
-use study_model::{Bank, Filter, FilterKind, Load, LoadModel, Name, Phase, Study, StudyModel};
+use study_model::{
+    Bank, Bus, Filter, FilterKind, Line, Load, LoadModel, Name, Phase, Study, StudyModel,
+};
+
+const ZERO: Decimal = Decimal { millionths: 0 };
+
+const ONE: Decimal = Decimal {
+    millionths: 1_000_000,
+};
 
 const TWO: Decimal = Decimal {
     millionths: 2_000_000,
@@ -126,6 +135,56 @@ fn network_of_filter(alloc: Global) -> Result<Network, Fail> {
     }
 }
 
+// The nominal voltage of a bus.
+fn kv_at(buses: &[Bus], place: usize) -> Option<Decimal>
+    ensures { result ≡ option_map (λ bus. bus.kv) (slice_get buses.now place) }
+{
+    match buses.get(place) {
+        Some(bus) => Some(bus.kv),
+        None => None,
+    }
+}
+
+// Whether the first two buses have one nominal voltage.
+fn have_equal_kv(buses: &[Bus]) -> bool
+    ensures { IsTrue result → HaveEqualKv buses.now 0 1 }
+{
+    match (kv_at(buses, 0), kv_at(buses, 1)) {
+        (Some(from), Some(to)) => from.millionths == to.millionths,
+        _ => false,
+    }
+}
+
+// A line of 1 and 2 ohms, in the zero sequence of 4 and 4 ohms, with mutual reactances of 1, 2 and 3 ohms, in two sections.
+fn network_of_line(alloc: Global) -> Result<Network, Fail> {
+    let study = study(alloc)?;
+    if !have_equal_kv(study.buses.as_slice()) {
+        return Err("two voltages".into());
+    }
+    let line = Line {
+        name: name()?,
+        from: 0,
+        to: 1,
+        r: ONE,
+        x: TWO,
+        b: ZERO,
+        r0: Some(FOUR),
+        x0: Some(FOUR),
+        b0: ZERO,
+        sections: 2,
+        xab: Some(ONE),
+        xbc: Some(TWO),
+        xca: Some(THREE),
+        skin_k: ZERO,
+        skin_m: ONE,
+    };
+    let mut network = new_network(alloc, 6)?;
+    match add_line_phases(alloc, &mut network, &study, &line, 1, 1) {
+        Ok(()) => Ok(network),
+        Err(_) => Err("refused".into()),
+    }
+}
+
 // At three times the powers as written: 12 MW and 6 MVAr, or 12 MVAr.
 const MOTOR: Values = Values::Series([(25, 3), (0, 1), (1, 1), (73, 120), (0, 1)]);
 
@@ -157,5 +216,37 @@ fn elements_with_a_phase(rt: HostRuntime) -> Result<(), Fail> {
         ToGround(6, REACTOR),
     ];
     assert_network(&rt, "filter", &filter, 7, &wanted);
+    Ok(())
+}
+
+// Of each of two sections: self (4 + 2·1)/6 and (4 + 2·2)/6, mutual (4 - 1)/6, and half of each mutual reactance.
+const fn half(place: u8) -> Values {
+    Values::Coupled(
+        place,
+        [
+            (1, 1),
+            (1, 2),
+            (4, 3),
+            (1, 2),
+            (1, 1),
+            (3, 2),
+            (0, 1),
+            (1, 1),
+        ],
+    )
+}
+
+#[test]
+fn a_line_with_mutual_reactances(rt: HostRuntime) -> Result<(), Fail> {
+    let line = network_of_line(rt.alloc())?;
+    let wanted = [
+        GroupBetween(1, 0, 6, half(0)),
+        GroupBetween(1, 1, 7, half(1)),
+        GroupBetween(1, 2, 8, half(2)),
+        GroupBetween(2, 6, 3, half(0)),
+        GroupBetween(2, 7, 4, half(1)),
+        GroupBetween(2, 8, 5, half(2)),
+    ];
+    assert_network(&rt, "line", &line, 9, &wanted);
     Ok(())
 }
