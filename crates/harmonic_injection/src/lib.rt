@@ -6,6 +6,6 @@ mod node;
 mod paths;
 
 pub use laws::injections_of_an_order;
-pub use node::inject;
+pub use node::{inject, node_of};
 pub use node_injection::NodeInjection;
 pub use paths::{check_paths, sequence_of_order};

@@ -17,9 +17,10 @@ use sqlite_items::Items;
 use std::alloc::{AllocError, Global};
 use study_model::{Study, StudyModel};
 
-/// The node of a bus in the sequence model, and of a phase of a bus in the phases model.
+/// The node of a bus in the sequence model, and of a phase of a bus in the phases model: the bus's number, or three times that and the phase's
+/// number. (This project's own.)
 #[tactic(auto, unfolding(crate::specs::Injections::node_of))]
-fn node_of(model: StudyModel, bus: u32, phase: u32) -> NodeId
+pub fn node_of(model: StudyModel, bus: u32, phase: u32) -> NodeId
     requires bus { bus < MAX_BUSES }
     requires phase { phase ≤ 2 }
     ensures { result.number ≡ node_of model bus phase }

@@ -1,20 +1,20 @@
 // Whether the currents of a spectrum have a path.
 ghost use Rattle.std.specs.Prelude.{◌≡◌, ◌≢◌, ◌<◌, ◌^◌, length, All, IsTrue, IsFalse, IfErr, OnOk};
 ghost use Rattle.study_model.specs.Lawful.{IsLawful, IsBus};
-ghost use Rattle.study_model.specs.declared.words.StudyModel.TheVariants as study_model;
 ghost use Rattle.study_model.specs.declared.words.Sequence.TheVariants.{Zero};
 ghost use Rattle.net_branch.specs.LiveNodes.{AreLive};
 ghost use Rattle.sequence_network.specs.Built.{IsNetworkOf};
 ghost use Rattle.sequence_network.specs.Refusals.{HasLiveNetworks, AreLiveBuses};
 ghost use Rattle.spectrum_reader.specs.declared.fault.SpectrumFault.TheVariants.{NoMemory};
 ghost use Rattle.harmonic_injection.specs.Injections.{AreInStudy};
-ghost use Rattle.harmonic_injection.specs.Paths.{HasPath, IsNoPath, sequence_of_order};
+ghost use Rattle.harmonic_injection.specs.Paths.{HasPath, HavePaths, IsNoPath, IsPathless, sequence_of_order};
+ghost use Rattle.study_networks.specs.Networks.{HasLive};
 
 use net_branch::{Network, live};
 use sequence_network::build_sequence;
 use spectrum_reader::{Injection, Spectrum, SpectrumFault};
 use std::alloc::Global;
-use study_model::{Sequence, Study};
+use study_model::{Sequence, Study, StudyModel};
 
 /// The sequence network that an order sees: the zero network where the order is a multiple of 3, else the positive one.
 pub fn sequence_of_order(order: u32) -> Sequence
@@ -67,11 +67,9 @@ fn check_rows(
     Ok(())
 }
 
-/// Whether the bus of each row of a spectrum is live in the sequence network that the row's order sees. Each bus of an accepted study is live in
-/// the positive network, so the first row that isn't has an order that is a multiple of 3: `NoPath` with its number, from 1. (This project's own.)
-pub fn check_paths(alloc: Global, study: &Study, spectrum: &Spectrum) -> Result<(), SpectrumFault>
+/// Whether the bus of each row of a spectrum is live in the sequence network that the row's order sees.
+fn check_sequences(alloc: Global, study: &Study, spectrum: &Spectrum) -> Result<(), SpectrumFault>
     requires study { IsLawful study.now }
-    requires model { study.now.model ≡ study_model.Sequence }
     requires accepted { HasLiveNetworks study.now }
     requires spectrum { AreInStudy study.now spectrum.now.rows }
     ensures ok { OnOk result (All (HasPath study.now) spectrum.now.rows) }
@@ -84,4 +82,21 @@ pub fn check_paths(alloc: Global, study: &Study, spectrum: &Spectrum) -> Result<
         return Err(SpectrumFault::NoMemory);
     };
     check_rows(study, &zero, &live, spectrum.rows.as_slice())
+}
+
+/// Whether each row of a spectrum has a path, where the study's model asks for it: in the sequence model the bus of the row is live in the network
+/// that its order sees. Each bus of an accepted study is live in the positive network, so the first row without a path has an order that is a
+/// multiple of 3: `NoPath` with its number, from 1. In the model of three phases no row is refused. (This project's own.)
+#[tactic(auto, using(crate::proofs::Models::have_paths, crate::proofs::Models::in_phases))]
+pub fn check_paths(alloc: Global, study: &Study, spectrum: &Spectrum) -> Result<(), SpectrumFault>
+    requires study { IsLawful study.now }
+    requires live { HasLive study.now }
+    requires spectrum { AreInStudy study.now spectrum.now.rows }
+    ensures ok { OnOk result (HavePaths study.now spectrum.now.rows) }
+    ensures refused { IfErr result (λ fault. fault ≢ NoMemory → IsPathless study.now spectrum.now.rows fault) }
+{
+    match study.model {
+        StudyModel::Sequence => check_sequences(alloc, study, spectrum),
+        StudyModel::Phases => Ok(()),
+    }
 }

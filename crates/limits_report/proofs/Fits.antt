@@ -7,7 +7,7 @@ use Rattle.distortion_bounds.specs.declared.squares.Squares.{Squares}
 use Rattle.limits_report.specs.declared.cell.Cell.{Cell}
 use Rattle.limits_report.specs.declared.cell.Cell.TheVariants.{Dead, Live}
 use Rattle.limits_report.specs.declared.cell.OrderCells.{OrderCells}
-use Rattle.limits_report.specs.Cells.{cell_at, bus_column, point_column, live_squares}
+use Rattle.limits_report.specs.Cells.{cell_at, column_of, live_squares}
 use Rattle.limits_report.specs.Fit.{IsFitCell, AreFitCells}
 use Rattle.limits_report.specs.Gathering.{Gathers}
 
@@ -16,13 +16,9 @@ fit_at [] number h = tt
 fit_at (c ∷ cells) zero h = h.0
 fit_at (c ∷ cells) (suc n) h = fit_at cells n h.1
 
-pub fit_buses : (number : ℕ) (table : List OrderCells) → AllByRecursion AreFitCells table → AllByRecursion IsFitCell (bus_column number table)
-fit_buses number [] h = tt
-fit_buses number (c ∷ table) h = (fit_at c.buses number h.0.buses, fit_buses number table h.1)
-
-pub fit_points : (number : ℕ) (table : List OrderCells) → AllByRecursion AreFitCells table → AllByRecursion IsFitCell (point_column number table)
-fit_points number [] h = tt
-fit_points number (c ∷ table) h = (fit_at c.points number h.0.points, fit_points number table h.1)
+pub fit_column : (number : ℕ) (table : List OrderCells) → AllByRecursion AreFitCells table → AllByRecursion IsFitCell (column_of number table)
+fit_column number [] h = tt
+fit_column number (c ∷ table) h = (fit_at c.cells number h.0.each, fit_column number table h.1)
 
 -- one more, where more are put after it
 pub gathers_more : (squares : Squares) (more : Option (List Squares)) (old mid new : List Squares) (whole : Bool) → mid ≡ old ++ squares ∷ [] → Gathers more mid new whole

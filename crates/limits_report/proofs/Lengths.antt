@@ -1,22 +1,24 @@
 -- A report on distortion has few rows.
-use Rattle.std.proofs.Common.{◌≡◌, ap, ℕ, zero, suc, ◌+◌, ◌*◌, ◌^◌, ◌≤◌, ◌<◌, Bool, true, false, List, [], ◌∷◌, ◌++◌, length, length-append, refl, arith}
+use Rattle.std.proofs.Common.{◌≡◌, ap, ℕ, zero, suc, ◌+◌, ◌*◌, ◌^◌, ◌≤◌, ◌<◌, Bool, true, false, List, [], ◌∷◌, length, length-append, refl, arith}
 use Rattle.std.specs.Prelude.{if◌then◌else◌}
 use Rattle.std.proofs.lemmas.List.{length-map}
 use Rattle.std.specs.List.{flat_map, filter, range_with_len}
 use Rattle.spectrum_reader.specs.declared.injection.Injection.{Injection}
 use Rattle.spectrum_reader.specs.declared.level.Level.{Level}
 use Rattle.study_model.specs.Lawful.{IsLawful}
-use Rattle.study_model.specs.declared.records.Bus.{Bus}
 use Rattle.study_model.specs.declared.records.Pcc.{Pcc}
 use Rattle.study_model.specs.declared.records.Study.{Study}
 use Rattle.scan_report.specs.declared.rows.Row.{Row}
 use Rattle.limits_report.specs.declared.cell.Cell.{Cell}
 use Rattle.limits_report.specs.declared.cell.Cell.TheVariants.{Dead, Live}
 use Rattle.limits_report.specs.declared.cell.OrderCells.{OrderCells}
-use Rattle.limits_report.specs.Cells.{cell_at, point_column, all_orders}
-use Rattle.limits_report.specs.Lines.{tdd_row}
-use Rattle.limits_report.specs.Sections.{voltage_rows_of, voltages_from, voltages, totals_from, current_rows_of, currents, point_rows, points_from, body_rows}
+use Rattle.limits_report.specs.declared.site.Site.{Site}
+use Rattle.limits_report.specs.declared.site.Subject.TheVariants.{Current}
+use Rattle.limits_report.specs.Cells.{cell_at}
+use Rattle.limits_report.specs.Sections.{rows_at, rows_from, rows_of, totals_from, section_of, points_from, body_rows}
+use Rattle.limits_report.specs.Sites.{bus_sites, point_sites}
 use Rattle.limits_report.specs.Table.{occurs, orders_of, cells_of, table_of}
+use Rattle.limits_report.proofs.Places.{few_at, few_sites}
 
 flat_few : {X : Type 0} (f : X → List Row) (m : ℕ) → ((x : X) → length (f x) ≤ m) → (xs : List X) → length (flat_map f xs) ≤ length xs * m
 flat_few f m h [] = omega arith
@@ -25,36 +27,39 @@ flat_few f m h (x ∷ xs) =
     let one = h x in
     omega (arith, length-append (f x) (flat_map f xs))
 
-at_cell : (study : Study) (levels : List Level) (order number : ℕ) (bus : Bus) (cell : Cell) → length (voltage_rows_of study levels order number bus cell) ≤ 1
-at_cell study levels order number bus Dead = omega arith
-at_cell study levels order number bus (Live squares) = omega arith
+at_cell : (study : Study) (levels : List Level) (order : ℕ) (site : Site) (cell : Cell) → length (rows_at study levels order site cell) ≤ 1
+at_cell study levels order site Dead = omega arith
+at_cell study levels order site (Live squares) = omega arith
 
-of_order : (study : Study) (levels : List Level) (cells : OrderCells) (number : ℕ) (buses : List Bus) → length (voltages_from study levels cells number buses) ≤ length buses
+of_order : (study : Study) (levels : List Level) (cells : OrderCells) (number : ℕ) (sites : List Site) → length (rows_from study levels cells number sites) ≤ length sites
 of_order study levels cells number [] = omega arith
-of_order study levels cells number (bus ∷ buses) =
-    let one = at_cell study levels cells.order number bus (cell_at cells.buses number) in
-    let more = of_order study levels cells (number + 1) buses in
-    omega (arith, length-append (voltage_rows_of study levels cells.order number bus (cell_at cells.buses number)) (voltages_from study levels cells (number + 1) buses))
+of_order study levels cells number (site ∷ sites) =
+    let one = at_cell study levels cells.order site (cell_at cells.cells number) in
+    let more = of_order study levels cells (number + 1) sites in
+    omega (arith, length-append (rows_at study levels cells.order site (cell_at cells.cells number)) (rows_from study levels cells (number + 1) sites))
 
-of_totals : (study : Study) (levels : List Level) (table : List OrderCells) (number : ℕ) (buses : List Bus) → length (totals_from study levels table number buses) ≡ length buses
+of_totals : (study : Study) (levels : List Level) (table : List OrderCells) (number : ℕ) (sites : List Site) → length (totals_from study levels table number sites) ≡ length sites
 of_totals study levels table number [] = refl
-of_totals study levels table number (bus ∷ buses) = let more = of_totals study levels table (number + 1) buses in omega arith
+of_totals study levels table number (site ∷ sites) = let more = of_totals study levels table (number + 1) sites in omega arith
 
-at_point : (study : Study) (order : ℕ) (point : Pcc) (cell : Cell) → length (current_rows_of study order point cell) ≤ 1
-at_point study order point Dead = omega arith
-at_point study order point (Live squares) = omega arith
+-- at most 600 rows of each of 49 orders, and as many totals
+of_buses : (study : Study) (levels : List Level) (table : List OrderCells) (sites : List Site) → length table ≤ 49 → length sites ≤ 600 → length (section_of study levels table 0 sites) ≤ 30000
+of_buses study levels table sites few all =
+    let rows = flat_few (λ cells. rows_from study levels cells 0 sites) 600 (λ cells. omega (arith, of_order study levels cells 0 sites, all)) table in
+    omega (arith, few, all, rows, of_totals study levels table 0 sites, length-append (rows_of study levels table 0 sites) (totals_from study levels table 0 sites))
 
-of_point : (study : Study) (table : List OrderCells) (number : ℕ) (point : Pcc) → length (point_rows study table number point) ≤ length table * 1 + 1
-of_point study table number point =
-    let flows = flat_few (λ cells. current_rows_of study cells.order point (cell_at cells.points number)) 1 (λ cells. at_point study cells.order point (cell_at cells.points number)) table in
-    omega (arith, length-append (currents study table number point) (tdd_row study point (all_orders (point_column number table)) ∷ []))
+of_point : (study : Study) (levels : List Level) (table : List OrderCells) (number : ℕ) (sites : List Site) → length table ≤ 49 → length sites ≤ 3 → length (section_of study levels table number sites) ≤ 150
+of_point study levels table number sites few all =
+    let rows = flat_few (λ cells. rows_from study levels cells number sites) 3 (λ cells. omega (arith, of_order study levels cells number sites, all)) table in
+    omega (arith, few, all, rows, of_totals study levels table number sites, length-append (rows_of study levels table number sites) (totals_from study levels table number sites))
 
-of_points : (study : Study) (table : List OrderCells) (number m : ℕ) (points : List Pcc) → length table * 1 + 1 ≤ m → length (points_from study table number points) ≤ length points * m
-of_points study table number m [] h = omega arith
-of_points study table number m (point ∷ points) h =
-    let one = of_point study table number point in
-    let more = of_points study table (number + 1) m points h in
-    omega (arith, length-append (point_rows study table number point) (points_from study table (number + 1) points))
+of_points : (study : Study) (levels : List Level) (table : List OrderCells) (number : ℕ) (points : List Pcc) → length table ≤ 49 → length (points_from study levels table number points) ≤ length points * 150
+of_points study levels table number [] few = omega arith
+of_points study levels table number (point ∷ points) few =
+    let sites = point_sites study.model point in
+    let one = of_point study levels table number sites few (few_at study.model point.bus (Current point)) in
+    let more = of_points study levels table (number + length sites) points few in
+    omega (arith, one, more, length-append (section_of study levels table number sites) (points_from study levels table (number + length sites) points))
 
 taken : (p : ℕ → Bool) (xs : List ℕ) → length (filter p xs) ≤ length xs
 taken p [] = omega arith
@@ -74,19 +79,8 @@ pub few_rows : (study : Study) (rows : List Injection) (levels : List Level) →
 few_rows study rows levels h =
     let table = table_of study rows in
     let few : length table ≤ 49 = few_orders study rows in
-    let buses : length study.buses ≤ 200 = h.buses_count.1 in
     let points : length study.points ≤ 32 = h.points_count in
-    let first = flat_few (λ cells. voltages_from study levels cells 0 study.buses) 200 (λ cells. omega (arith, of_order study levels cells 0 study.buses, buses)) table in
-    let second = of_totals study levels table 0 study.buses in
-    let third = of_points study table 0 50 study.points (omega (arith, few)) in
-    omega (
-      arith,
-      few,
-      buses,
-      points,
-      first,
-      second,
-      third,
-      length-append (voltages study levels table) (totals_from study levels table 0 study.buses),
-      length-append (voltages study levels table ++ totals_from study levels table 0 study.buses) (points_from study table 0 study.points),
-    )
+    let sites = bus_sites study.model 0 study.buses in
+    let first = of_buses study levels table sites few (few_sites study h) in
+    let second = of_points study levels table (length sites) study.points few in
+    omega (arith, points, first, second, length-append (section_of study levels table 0 sites) (points_from study levels table (length sites) study.points))

@@ -2,6 +2,8 @@ pub mod Scales
 pub mod Fits
 pub mod Everywhere
 pub mod Orders
+pub mod Places
+pub mod Models
 pub mod Solving
 pub mod Seen
 pub mod Judged

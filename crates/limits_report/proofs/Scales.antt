@@ -1,5 +1,5 @@
 -- The scale of a lawful study.
-use Rattle.std.proofs.Common.{◌≡◌, ℕ, ◌≤◌, ◌<◌, ◌^◌, ◌⊎◌, length, inl, inr, arith}
+use Rattle.std.proofs.Common.{◌≡◌, ℕ, ◌≤◌, ◌⊎◌, inl, inr, arith}
 use Rattle.study_model.specs.Lawful.{IsLawful}
 use Rattle.study_model.specs.declared.records.Study.{Study}
 
@@ -9,7 +9,3 @@ by_scale scale (inr e) = omega arith
 
 pub within : (study : Study) → IsLawful study → study.scale ≤ 48
 within study h = by_scale study.scale h.scale
-
--- and how many buses it has
-pub few_buses : (study : Study) → IsLawful study → length study.buses < 2 ^ 32
-few_buses study h = omega (arith, h.buses_count.1)

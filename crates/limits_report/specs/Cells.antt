@@ -1,4 +1,4 @@
--- What is computed of one order of a spectrum at a bus or at a point of common coupling, and what all orders are together.
+-- What is computed of one order of a spectrum at a node, and what all orders are together.
 use Rattle.std.specs.Prelude.{ℕ, List, [], ◌∷◌, Option, Some, None, slice_get, unwrap_or, option_map, map}
 use Rattle.std.specs.Option.{option_and_then}
 use Rattle.distortion_bounds.specs.Totals.{total_of}
@@ -11,12 +11,9 @@ use Rattle.limits_report.specs.declared.cell.OrderCells.{OrderCells}
 abbrev pub cell_at : List Cell → ℕ → Cell
 cell_at cells number = unwrap_or (slice_get cells number) Dead
 
--- what is computed at a bus, over the orders
-abbrev pub bus_column : ℕ → List OrderCells → List Cell
-bus_column number table = map (λ cells. cell_at cells.buses number) table
-
-abbrev pub point_column : ℕ → List OrderCells → List Cell
-point_column number table = map (λ cells. cell_at cells.points number) table
+-- the cells of a number, over the orders
+abbrev pub column_of : ℕ → List OrderCells → List Cell
+column_of number table = map (λ cells. cell_at cells.cells number) table
 
 -- the squares of the cells that are live, where each of these has some
 abbrev pub live_squares : List Cell → Option (List Squares)

@@ -15,6 +15,7 @@ use Rattle.ieee519_limits.specs.Verdicts.{IsVerdict}
 use Rattle.ieee519_limits.specs.ExactVerdicts.{IsExactVerdict, Bounds}
 use Rattle.distortion_bounds.specs.Distortion.{voltage_square, current_square}
 use Rattle.distortion_bounds.specs.Solved.{whole_order}
+use Rattle.scan_report.specs.declared.rows.PhaseWord.{PhaseWord}
 use Rattle.scan_report.specs.declared.rows.Row.{Row}
 use Rattle.scan_report.specs.declared.rows.Row.TheVariants as row
 use Rattle.harmonic_injection.specs.Injections.{injections_of}
@@ -24,6 +25,7 @@ use Rattle.study_model.specs.Voltages.{kv_of}
 use Rattle.study_model.specs.declared.records.Bus.{Bus}
 use Rattle.study_model.specs.declared.records.Pcc.{Pcc}
 use Rattle.study_model.specs.declared.records.Study.{Study}
+use Rattle.limits_report.specs.Sites.{node_in}
 use Rattle.limits_report.specs.Table.{orders_of, network_at}
 use Rattle.limits_report.specs.Report.{limits_rows_of}
 
@@ -47,14 +49,14 @@ both _ _ = None
 abbrev pub live_orders : Study → List Injection → ℕ → List ℕ
 live_orders study rows node = filter (λ order. is_live (network_at study order) node) (orders_of rows)
 
--- the distortion square of the voltage at a bus, in a state
+-- the distortion square of the voltage of a node, in a state
 abbrev pub voltage_in : ℕ → State → Ratio
-voltage_in bus s = voltage_square (s.voltage bus)
+voltage_in node s = voltage_square (s.voltage node)
 
--- and of the terminal current of a point's element at its bus, in a state of the network of an order
-abbrev pub current_in : Study → Pcc → ℕ → State → Ratio
-current_in study point order s =
-    current_square (kv_of study.buses point.bus) study.mva point.il (terminal_of point.element (network_at study order).branches s.current point.bus)
+-- and of the current from a node into a point's element, in a state of the network of an order
+abbrev pub current_in : Study → Pcc → ℕ → ℕ → State → Ratio
+current_in study point node order s =
+    current_square (kv_of study.buses point.bus) study.mva point.il (terminal_of point.element (network_at study order).branches s.current node)
 
 -- One order: the verdict is by the bounds, undecided only where they are absent or the limit lies between them; and where there are bounds, the
 -- order has exactly one exact state, which is judged.
@@ -72,44 +74,44 @@ pub record IsTrueOver (study : Study) (rows : List Injection) (orders : List ℕ
   pub by_bounds : IsVerdict bounds limit verdict
   pub known : IfSome bounds (λ b. (states : List State) × AllZip (IsOnlyState study rows) orders states × IsJudged (sum_over square orders states) b limit verdict)
 
--- the row of a voltage: it is one of the bus that it names
-pub record IsTrueVoltage (study : Study) (rows : List Injection) (name : List ℕ) (order : ℕ) (bounds : Option PercentBounds) (limit : ℕ) (verdict : Verdict) : Type 0 where
+-- the row of a voltage: it is one of the bus that it names, at the node of the phase
+pub record IsTrueVoltage (study : Study) (rows : List Injection) (name : List ℕ) (phase : PhaseWord) (order : ℕ) (bounds : Option PercentBounds) (limit : ℕ) (verdict : Verdict) : Type 0 where
   pub number : ℕ
   pub bus : Bus
   pub at : slice_get study.buses number ≡ Some bus
   pub named : bus.name ≡ name
-  pub holds : IsTrueAt study rows order (voltage_in number) bounds limit verdict
+  pub holds : IsTrueAt study rows order (voltage_in (node_in study.model number phase)) bounds limit verdict
 
--- that of the total distortion of a voltage, over the orders that the bus sees
-pub record IsTrueThd (study : Study) (rows : List Injection) (name : List ℕ) (bounds : Option PercentBounds) (limit : ℕ) (verdict : Verdict) : Type 0 where
+-- that of the total distortion of a voltage, over the orders in whose network the node is live
+pub record IsTrueThd (study : Study) (rows : List Injection) (name : List ℕ) (phase : PhaseWord) (bounds : Option PercentBounds) (limit : ℕ) (verdict : Verdict) : Type 0 where
   pub number : ℕ
   pub bus : Bus
   pub at : slice_get study.buses number ≡ Some bus
   pub named : bus.name ≡ name
-  pub holds : IsTrueOver study rows (live_orders study rows number) (λ order. voltage_in number) bounds limit verdict
+  pub holds : IsTrueOver study rows (live_orders study rows (node_in study.model number phase)) (λ order. voltage_in (node_in study.model number phase)) bounds limit verdict
 
--- that of a current: it is one at the point that it names
-pub record IsTrueCurrent (study : Study) (rows : List Injection) (name : List ℕ) (order : ℕ) (bounds : Option PercentBounds) (limit : ℕ) (verdict : Verdict) : Type 0 where
+-- that of a current: it is one at the point that it names, at the node of its bus and the phase
+pub record IsTrueCurrent (study : Study) (rows : List Injection) (name : List ℕ) (phase : PhaseWord) (order : ℕ) (bounds : Option PercentBounds) (limit : ℕ) (verdict : Verdict) : Type 0 where
   pub number : ℕ
   pub point : Pcc
   pub at : slice_get study.points number ≡ Some point
   pub named : point.name ≡ name
-  pub holds : IsTrueAt study rows order (current_in study point order) bounds limit verdict
+  pub holds : IsTrueAt study rows order (current_in study point (node_in study.model point.bus phase) order) bounds limit verdict
 
--- that of the total demand distortion at a point, over the orders that its bus sees
-pub record IsTrueTdd (study : Study) (rows : List Injection) (name : List ℕ) (bounds : Option PercentBounds) (limit : ℕ) (verdict : Verdict) : Type 0 where
+-- that of the total demand distortion at a point, over the orders in whose network the node is live
+pub record IsTrueTdd (study : Study) (rows : List Injection) (name : List ℕ) (phase : PhaseWord) (bounds : Option PercentBounds) (limit : ℕ) (verdict : Verdict) : Type 0 where
   pub number : ℕ
   pub point : Pcc
   pub at : slice_get study.points number ≡ Some point
   pub named : point.name ≡ name
-  pub holds : IsTrueOver study rows (live_orders study rows point.bus) (current_in study point) bounds limit verdict
+  pub holds : IsTrueOver study rows (live_orders study rows (node_in study.model point.bus phase)) (current_in study point (node_in study.model point.bus phase)) bounds limit verdict
 
 -- what a row says is true; the counts and the status say nothing of the network
 abbrev pub IsTrueRow : Study → List Injection → Row → Type 0
-IsTrueRow study rows (row.Voltage bus phase order lo hi limit verdict) = IsTrueVoltage study rows bus order (both lo hi) limit verdict
-IsTrueRow study rows (row.Thd bus phase lo hi limit verdict) = IsTrueThd study rows bus (both lo hi) limit verdict
-IsTrueRow study rows (row.Current point phase order lo hi limit verdict) = IsTrueCurrent study rows point order (both lo hi) limit verdict
-IsTrueRow study rows (row.Tdd point phase lo hi limit verdict) = IsTrueTdd study rows point (both lo hi) limit verdict
+IsTrueRow study rows (row.Voltage bus phase order lo hi limit verdict) = IsTrueVoltage study rows bus phase order (both lo hi) limit verdict
+IsTrueRow study rows (row.Thd bus phase lo hi limit verdict) = IsTrueThd study rows bus phase (both lo hi) limit verdict
+IsTrueRow study rows (row.Current point phase order lo hi limit verdict) = IsTrueCurrent study rows point phase order (both lo hi) limit verdict
+IsTrueRow study rows (row.Tdd point phase lo hi limit verdict) = IsTrueTdd study rows point phase (both lo hi) limit verdict
 IsTrueRow study rows _ = Unit {0}
 
 -- so does each row of the report

@@ -15,5 +15,4 @@ IsFitCell (Live squares) = IfSome squares AreSquares
 pub record AreFitCells (cells : OrderCells) : Type 0 where
   pub low : 2 ≤ cells.order
   pub high : cells.order ≤ 50
-  pub buses : AllByRecursion IsFitCell cells.buses
-  pub points : AllByRecursion IsFitCell cells.points
+  pub each : AllByRecursion IsFitCell cells.cells

@@ -1,3 +1,4 @@
+pub mod Sites
 pub mod Cells
 pub mod Fit
 pub mod Gathering

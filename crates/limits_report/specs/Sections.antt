@@ -1,61 +1,52 @@
--- The rows of a report on distortion, from what is computed of each order: the cells of the buses and of the points.
-use Rattle.std.specs.Prelude.{ℕ, ◌+◌, List, [], ◌∷◌, ◌++◌}
+-- The rows of a report on distortion, from what is computed of each order: the cells of its sites.
+use Rattle.std.specs.Prelude.{ℕ, ◌+◌, List, [], ◌∷◌, ◌++◌, length}
 use Rattle.std.specs.List.{flat_map}
 use Rattle.scan_report.specs.declared.rows.Row.{Row}
 use Rattle.spectrum_reader.specs.declared.level.Level.{Level}
-use Rattle.study_model.specs.declared.records.Bus.{Bus}
 use Rattle.study_model.specs.declared.records.Pcc.{Pcc}
 use Rattle.study_model.specs.declared.records.Study.{Study}
 use Rattle.limits_report.specs.declared.cell.Cell.{Cell}
 use Rattle.limits_report.specs.declared.cell.Cell.TheVariants.{Dead, Live}
 use Rattle.limits_report.specs.declared.cell.OrderCells.{OrderCells}
-use Rattle.limits_report.specs.Cells.{cell_at, bus_column, point_column, all_orders}
-use Rattle.limits_report.specs.Lines.{voltage_row, thd_row, current_row, tdd_row}
+use Rattle.limits_report.specs.declared.site.Site.{Site}
+use Rattle.limits_report.specs.Cells.{cell_at, column_of, all_orders}
+use Rattle.limits_report.specs.Lines.{row_of, total_row_of}
+use Rattle.limits_report.specs.Sites.{bus_sites, point_sites}
 
--- a row at a bus that is live in the network of the order
-abbrev pub voltage_rows_of : Study → List Level → ℕ → ℕ → Bus → Cell → List Row
-voltage_rows_of study levels order number bus Dead = []
-voltage_rows_of study levels order number bus (Live squares) = voltage_row study levels order number bus squares ∷ []
+-- a row at a node that is live in the network of the order
+abbrev pub rows_at : Study → List Level → ℕ → Site → Cell → List Row
+rows_at study levels order site Dead = []
+rows_at study levels order site (Live squares) = row_of study levels order site.subject site.phase squares ∷ []
 
--- those of an order, its buses being numbered from here
-abbrev pub voltages_from : Study → List Level → OrderCells → ℕ → List Bus → List Row
-voltages_from study levels cells number [] = []
-voltages_from study levels cells number (bus ∷ buses) =
-    voltage_rows_of study levels cells.order number bus (cell_at cells.buses number) ++ voltages_from study levels cells (number + 1) buses
+-- those of an order, at sites whose cells are numbered from here
+abbrev pub rows_from : Study → List Level → OrderCells → ℕ → List Site → List Row
+rows_from study levels cells number [] = []
+rows_from study levels cells number (site ∷ sites) = rows_at study levels cells.order site (cell_at cells.cells number) ++ rows_from study levels cells (number + 1) sites
 
 -- those of all orders
-abbrev pub voltages : Study → List Level → List OrderCells → List Row
-voltages study levels table = flat_map (λ cells. voltages_from study levels cells 0 study.buses) table
+abbrev pub rows_of : Study → List Level → List OrderCells → ℕ → List Site → List Row
+rows_of study levels table number sites = flat_map (λ cells. rows_from study levels cells number sites) table
 
--- the row of the total distortion at a bus
-abbrev pub total_row : Study → List Level → List OrderCells → ℕ → Bus → Row
-total_row study levels table number bus = thd_row study levels number bus (all_orders (bus_column number table))
+-- the row of what all orders are together at a site
+abbrev pub total_row : Study → List Level → List OrderCells → ℕ → Site → Row
+total_row study levels table number site = total_row_of study levels site.subject site.phase (all_orders (column_of number table))
 
--- those of buses that are numbered from here
-abbrev pub totals_from : Study → List Level → List OrderCells → ℕ → List Bus → List Row
+-- those of sites whose cells are numbered from here
+abbrev pub totals_from : Study → List Level → List OrderCells → ℕ → List Site → List Row
 totals_from study levels table number [] = []
-totals_from study levels table number (bus ∷ buses) =
-    total_row study levels table number bus ∷ totals_from study levels table (number + 1) buses
+totals_from study levels table number (site ∷ sites) = total_row study levels table number site ∷ totals_from study levels table (number + 1) sites
 
--- a row at a point whose bus is live in the network of the order
-abbrev pub current_rows_of : Study → ℕ → Pcc → Cell → List Row
-current_rows_of study order point Dead = []
-current_rows_of study order point (Live squares) = current_row study order point squares ∷ []
+-- rows by order, then by site; then those of all orders, by site
+abbrev pub section_of : Study → List Level → List OrderCells → ℕ → List Site → List Row
+section_of study levels table number sites = rows_of study levels table number sites ++ totals_from study levels table number sites
 
--- those of all orders
-abbrev pub currents : Study → List OrderCells → ℕ → Pcc → List Row
-currents study table number point = flat_map (λ cells. current_rows_of study cells.order point (cell_at cells.points number)) table
+-- a section for each point of common coupling
+abbrev pub points_from : Study → List Level → List OrderCells → ℕ → List Pcc → List Row
+points_from study levels table number [] = []
+points_from study levels table number (point ∷ points) =
+    section_of study levels table number (point_sites study.model point) ++ points_from study levels table (number + length (point_sites study.model point)) points
 
--- the rows of a point: its currents by order, then the total demand distortion
-abbrev pub point_rows : Study → List OrderCells → ℕ → Pcc → List Row
-point_rows study table number point =
-    currents study table number point ++ tdd_row study point (all_orders (point_column number table)) ∷ []
-
--- those of points that are numbered from here
-abbrev pub points_from : Study → List OrderCells → ℕ → List Pcc → List Row
-points_from study table number [] = []
-points_from study table number (point ∷ points) = point_rows study table number point ++ points_from study table (number + 1) points
-
--- the rows of a report before its summary
+-- the rows of a report before its summary: a section of the voltages of all buses, then those of the points
 abbrev pub body_rows : Study → List Level → List OrderCells → List Row
-body_rows study levels table = voltages study levels table ++ totals_from study levels table 0 study.buses ++ points_from study table 0 study.points
+body_rows study levels table =
+    section_of study levels table 0 (bus_sites study.model 0 study.buses) ++ points_from study levels table (length (bus_sites study.model 0 study.buses)) study.points

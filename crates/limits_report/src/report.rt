@@ -1,12 +1,10 @@
 // The report on the distortion of a study by a spectrum.
-ghost use Rattle.std.specs.Prelude.{◌≡◌, ◌<◌, ◌^◌, length, All, IfOk, OnOk};
+ghost use Rattle.std.specs.Prelude.{◌≡◌, ◌<◌, ◌^◌, length, IfOk, OnOk};
 ghost use Rattle.std.specs.List.{AllByRecursion, list_any};
-ghost use Rattle.sequence_network.specs.Built.{IsNetworkOf};
+ghost use Rattle.study_networks.specs.Networks.{AreNetworksOf};
 ghost use Rattle.study_model.specs.Lawful.{IsLawful};
-ghost use Rattle.study_model.specs.declared.words.StudyModel.TheVariants as study_model;
-ghost use Rattle.study_model.specs.declared.words.Sequence.TheVariants.{Positive, Zero};
 ghost use Rattle.spectrum_reader.specs.Lawful.{IsLawfulSpectrum};
-ghost use Rattle.harmonic_injection.specs.Paths.{HasPath};
+ghost use Rattle.harmonic_injection.specs.Paths.{HavePaths};
 ghost use Rattle.scan_report.specs.Rows.{fields_of, HaveText};
 ghost use Rattle.limits_report.specs.Report.{passes, fails, is_undecided, has_verdict, count_of, counts_row, status_of, closed, limits_rows_of, limits_status};
 ghost use Rattle.limits_report.specs.Claim.{HoldsOfLimits};
@@ -17,11 +15,11 @@ use crate::table::table_of;
 use complex_interval::{Enclosure, Span};
 use ieee519_limits::Verdict;
 use scan_report::Row;
-use sequence_network::Networks;
 use spectrum_reader::{Levels, Spectrum};
 use sqlite_items::Items;
 use std::alloc::{AllocError, Global};
 use study_model::Study;
+use study_networks::StudyNetworks;
 
 /// The rows of a report on distortion, and its status: 3 where some verdict is fail, else 4 where some is undecided, else 0.
 #[derive(Drop)]
@@ -147,16 +145,13 @@ fn closed(mut rows: Items<Row>) -> Result<LimitsReport, AllocError>
 fn report_at<E: Enclosure>(
     alloc: Global,
     study: &Study,
-    networks: &Networks,
+    networks: &StudyNetworks,
     spectrum: &Spectrum,
     levels: &Levels,
 ) -> Result<LimitsReport, AllocError>
     requires study { IsLawful study.now }
-    requires model { study.now.model ≡ study_model.Sequence }
-    requires positive { IsNetworkOf study.now Positive networks.now.positive }
-    requires zero { IsNetworkOf study.now Zero networks.now.zero }
+    requires networks { AreNetworksOf study.now networks.now }
     requires spectrum { IsLawfulSpectrum study.now spectrum.now.rows }
-    requires paths { All (HasPath study.now) spectrum.now.rows }
     requires scale { E.SCALE ≡ study.now.scale }
     ensures rows { IfOk result (λ report. report.rows ≡ limits_rows_of study.now spectrum.now.rows levels.now.rows) }
     ensures status { IfOk result (λ report. report.status ≡ limits_status study.now spectrum.now.rows levels.now.rows) }
@@ -168,24 +163,23 @@ fn report_at<E: Enclosure>(
 }
 
 /// The rows of the report on the distortion that a spectrum causes in a study, at the study's scale, beside planning levels (no rows where there
-/// are none), and its status. Voltage rows stand by ascending order, then bus; then the total distortion of each bus; then for each point of common
-/// coupling its currents by order and their total demand distortion; the counts of verdicts; the last row. A bus that isn't live in the network
-/// that an order sees has no row of that order. Conditions: the study is accepted and of the sequence model, the networks are its networks, and each
-/// row of the spectrum has a path. (This project's own; limits after IEEE Std 519-2022.)
+/// are none), and its status. Voltage rows stand by ascending order, then bus, then phase; then the total distortion by bus and phase; then for each
+/// point of common coupling its currents by order and phase, and their total demand distortion by phase; the counts of verdicts; the last row. The
+/// sequence model has one row where that of three phases has three. A node that isn't live in the network that an order sees has no row of that order.
+/// An order that injects at such a node has no solution: its rows have no bounds. Conditions: the study is accepted, the networks are its networks, and
+/// in the sequence model each row of the spectrum has a path. (This project's own; limits after IEEE Std 519-2022.)
 #[tactic(auto, using(crate::proofs::Texts::have_text))]
 pub fn limits_rows(
     alloc: Global,
     study: &Study,
-    networks: &Networks,
+    networks: &StudyNetworks,
     spectrum: &Spectrum,
     levels: &Levels,
 ) -> Result<LimitsReport, AllocError>
     requires study { IsLawful study.now }
-    requires model { study.now.model ≡ study_model.Sequence }
-    requires positive { IsNetworkOf study.now Positive networks.now.positive }
-    requires zero { IsNetworkOf study.now Zero networks.now.zero }
+    requires networks { AreNetworksOf study.now networks.now }
     requires spectrum { IsLawfulSpectrum study.now spectrum.now.rows }
-    requires paths { All (HasPath study.now) spectrum.now.rows }
+    requires paths { HavePaths study.now spectrum.now.rows }
     ensures rows { IfOk result (λ report. report.rows ≡ limits_rows_of study.now spectrum.now.rows levels.now.rows) }
     ensures status { IfOk result (λ report. report.status ≡ limits_status study.now spectrum.now.rows levels.now.rows) }
     ensures text { IfOk result (λ report. AllByRecursion (λ row. HaveText (fields_of row)) report.rows) }

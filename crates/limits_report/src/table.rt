@@ -1,30 +1,31 @@
-// What is computed of each order of a spectrum: the solution of the order, and the squares at each bus and point.
-ghost use Rattle.std.specs.Prelude.{◌≡◌, ◌+◌, ◌≤◌, ◌<◌, ◌^◌, [], ◌∷◌, ◌++◌, length, map, true, All, IfOk, OnOk, get_or, false, ℕ};
-ghost use Rattle.std.specs.List.{AllByRecursion, filter, range_with_len};
-ghost use Rattle.network_theory.specs.Reach.{is_live};
+// What is computed of each order of a spectrum: the solution of the order, and the squares at each site.
+ghost use Rattle.std.specs.Prelude.{◌≡◌, ◌+◌, ◌≤◌, ◌<◌, ◌^◌, [], ◌∷◌, ◌++◌, length, map, true, false, not, IfOk, IfSome, OnOk, get_or};
+ghost use Rattle.std.specs.List.{AllByRecursion, filter, list_any, range_with_len};
 ghost use Rattle.net_branch.specs.Exact.{exact_network};
-ghost use Rattle.sequence_network.specs.Built.{IsNetworkOf};
-ghost use Rattle.study_model.specs.Lawful.{IsLawful, IsLawfulPcc};
-ghost use Rattle.study_model.specs.declared.words.StudyModel.TheVariants as study_model;
-ghost use Rattle.study_model.specs.declared.words.Sequence.TheVariants.{Positive, Zero};
+ghost use Rattle.net_branch.specs.Whole.{IsWholeNetwork};
+ghost use Rattle.node_injection.specs.Injected.{exact_injection};
+ghost use Rattle.study_model.specs.Lawful.{IsLawful};
+ghost use Rattle.study_networks.specs.Networks.{AreNetworksOf};
 ghost use Rattle.spectrum_reader.specs.Lawful.{IsLawfulSpectrum};
-ghost use Rattle.harmonic_injection.specs.Paths.{HasPath, sequence_of_order};
 ghost use Rattle.distortion_bounds.specs.Squares.{AreSquares};
 ghost use Rattle.limits_report.specs.Fit.{IsFitCell, AreFitCells};
 ghost use Rattle.limits_report.specs.Marks.{AreMarks};
-ghost use Rattle.limits_report.specs.Table.{occurs, network_at, solver_at, cell_of, bus_cells, point_cell, cells_of, orders_of, table_of};
-ghost use Rattle.limits_report.specs.Truth.{AreTrueBuses, IsTruePoint, IsTrueSolver, IsTrueOrder};
+ghost use Rattle.limits_report.specs.Sites.{sites_of};
+ghost use Rattle.limits_report.specs.Table.{occurs, network_at, is_unfed, solver_of, squares_at, cell_of, site_cell, cells_with, cells_of, orders_of, table_of};
+ghost use Rattle.limits_report.specs.Truth.{IsTrueSite, IsTrueSolver, IsTrueOrder};
 
 use crate::cell::{Cell, OrderCells};
+use crate::site::{Site, Subject, sites_of};
 use complex_interval::Enclosure;
 use distortion_bounds::{OrderSolver, Squares};
 use harmonic_injection::{inject, sequence_of_order};
 use net_branch::{Network, NodeId, live};
-use sequence_network::Networks;
+use node_injection::NodeInjection;
 use spectrum_reader::{MAX_ORDER, MIN_ORDER, Spectrum};
 use sqlite_items::Items;
 use std::alloc::{AllocError, Global};
-use study_model::{Bus, Pcc, Sequence, Study};
+use study_model::{Sequence, Study};
+use study_networks::StudyNetworks;
 
 /// Whether some row of the spectrum is of the order.
 fn occurs(spectrum: &Spectrum, order: u32) -> bool
@@ -38,43 +39,38 @@ fn occurs(spectrum: &Spectrum, order: u32) -> bool
 }
 
 /// The network that an order sees.
-fn network_at<'a>(study: &Study, networks: &'a Networks, order: u32) -> &'a Network
-    requires positive { IsNetworkOf study.now Positive networks.now.positive }
-    requires zero { IsNetworkOf study.now Zero networks.now.zero }
-    ensures { IsNetworkOf study.now (sequence_of_order order) result.now }
+fn network_at<'a>(study: &Study, networks: &'a StudyNetworks, order: u32) -> &'a Network
+    requires networks { AreNetworksOf study.now networks.now }
+    ensures exact { exact_network result.now ≡ network_at study.now order }
+    ensures whole { IsWholeNetwork result.now }
 {
     let _study = study;
-    match sequence_of_order(order) {
-        Sequence::Positive => &networks.positive,
-        Sequence::Zero => &networks.zero,
+    match networks {
+        StudyNetworks::Phases(network) => network,
+        StudyNetworks::Sequences(networks) => match sequence_of_order(order) {
+            Sequence::Positive => &networks.positive,
+            Sequence::Zero => &networks.zero,
+        },
     }
 }
 
-/// The solver of the network that an order sees, after the order's injections were solved.
-#[tactic(auto, unfolding(crate::specs::Table::solver_at))]
-fn solver_at<E: Enclosure>(
-    alloc: Global,
-    study: &Study,
-    network: &Network,
-    spectrum: &Spectrum,
-    order: u32,
-) -> Result<OrderSolver<E>, AllocError>
-    requires study { IsLawful study.now }
-    requires model { study.now.model ≡ study_model.Sequence }
-    requires network { IsNetworkOf study.now (sequence_of_order order) network.now }
-    requires spectrum { IsLawfulSpectrum study.now spectrum.now.rows }
-    requires paths { All (HasPath study.now) spectrum.now.rows }
-    requires low { 2 ≤ order }
-    requires high { order ≤ 50 }
-    requires occurs { occurs spectrum.now.rows order ≡ true }
-    requires scale { E.SCALE ≡ study.now.scale }
-    ensures value { IfOk result (λ solver. solver ≡ solver_at study.now spectrum.now.rows order) }
-    ensures truth { OnOk result (IsTrueSolver study.now spectrum.now.rows order (solver_at study.now spectrum.now.rows order)) }
+/// Whether a node is live, by one value for each node.
+fn is_marked(marks: &[bool], node: u32) -> bool
+    ensures { result ≡ get_or marks.now node false }
 {
-    let injections = inject(alloc, study, spectrum, order)?;
-    let mut solver = OrderSolver::new(alloc, network)?;
-    let _answer = solver.solve(order, injections.as_slice());
-    Ok(solver)
+    match marks.get(node as usize) {
+        Some(mark) => *mark,
+        None => false,
+    }
+}
+
+/// Whether some injection is at a node that isn't live.
+fn is_unfed(marks: &[bool], injections: &[NodeInjection]) -> bool
+    ensures { result ≡ list_any (λ at. not (get_or marks.now at.node.number false)) injections.now }
+{
+    injections
+        .iter()
+        .any(|at| !is_marked(marks, at.node.number))
 }
 
 /// Squares at a node, where it is live.
@@ -88,68 +84,140 @@ fn cell_of(live: bool, squares: Option<Squares>) -> Cell
     }
 }
 
-/// Puts the cells of buses that are numbered from here.
-fn push_bus_cells<E: Enclosure>(
-    solver: &OrderSolver<E>,
-    marks: &[bool],
-    number: u32,
-    buses: &[Bus],
-    cells: &mut Items<Cell>,
-) -> Result<(), AllocError>
-    requires marks { AreMarks solver.now.network marks.now }
-    requires within { number + length buses.now ≤ length marks.now }
-    requires few { number + length buses.now < 2 ^ 32 }
-    ensures cells { OnOk result (cells.new ≡ cells.old ++ bus_cells solver.now number buses.now) }
-    ensures fit { OnOk result (AllByRecursion IsFitCell (bus_cells solver.now number buses.now)) }
-    ensures truth { OnOk result (AreTrueBuses E.SCALE solver.now number buses.now) }
+/// The squares of what is said at a site.
+fn squares_at<E: Enclosure>(solver: &mut OrderSolver<E>, site: &Site) -> Option<Squares>
+    ensures value { result ≡ squares_at E.SCALE solver.old site.now.subject site.now.node }
+    ensures fit { IfSome result AreSquares }
+    ensures truth { IsTrueSite E.SCALE solver.old site.now }
+    ensures same { solver.new ≡ solver.old }
 {
-    match buses {
-        [] => Ok(()),
-        [_bus, rest @ ..] => {
-            let squares = solver.voltage(NodeId { number });
-            cells.push(cell_of(marks[number as usize], squares))?;
-            push_bus_cells(solver, marks, number + 1, rest, cells)
-        }
+    let node = NodeId { number: site.node };
+    match site.subject {
+        Subject::Voltage(_number, _bus) => solver.voltage(node),
+        Subject::Current(point) => solver.current(point.element, node),
     }
 }
 
-/// Puts the cells of points.
-fn push_point_cells<E: Enclosure>(
+/// Puts the cells of sites.
+fn push_cells<E: Enclosure>(
     solver: &mut OrderSolver<E>,
     marks: &[bool],
-    points: &[Pcc],
+    sites: &[Site],
     cells: &mut Items<Cell>,
 ) -> Result<(), AllocError>
-    requires marks { AreMarks solver.old.network marks.now }
-    requires points { AllByRecursion (λ point. point.bus < length marks.now) points.now }
-    ensures cells { OnOk result (cells.new ≡ cells.old ++ map (point_cell E.SCALE solver.old) points.now) }
-    ensures fit { OnOk result (AllByRecursion IsFitCell (map (point_cell E.SCALE solver.old) points.now)) }
-    ensures truth { OnOk result (AllByRecursion (IsTruePoint E.SCALE solver.old) points.now) }
+    requires { AreMarks solver.old.network marks.now }
+    ensures cells { OnOk result (cells.new ≡ cells.old ++ map (site_cell E.SCALE solver.old) sites.now) }
+    ensures fit { OnOk result (AllByRecursion IsFitCell (map (site_cell E.SCALE solver.old) sites.now)) }
+    ensures truth { OnOk result (AllByRecursion (IsTrueSite E.SCALE solver.old) sites.now) }
 {
-    match points {
+    match sites {
         [] => Ok(()),
-        [point, rest @ ..] => {
-            let squares = solver.current(point.element, NodeId { number: point.bus });
-            cells.push(cell_of(marks[point.bus as usize], squares))?;
-            push_point_cells(solver, marks, rest, cells)
+        [site, rest @ ..] => {
+            let squares = squares_at(solver, site);
+            cells.push(cell_of(is_marked(marks, site.node), squares))?;
+            push_cells(solver, marks, rest, cells)
         }
     }
 }
 
-/// The cells of an order.
-#[tactic(auto, unfolding(crate::specs::Table::cells_of))]
+/// Puts the cells of sites where there is no solution.
+fn push_without_squares(
+    marks: &[bool],
+    sites: &[Site],
+    cells: &mut Items<Cell>,
+) -> Result<(), AllocError>
+    ensures { OnOk result (cells.new ≡ cells.old ++ map (λ site. cell_of (get_or marks.now site.node false) None) sites.now) }
+{
+    match sites {
+        [] => Ok(()),
+        [site, rest @ ..] => {
+            cells.push(cell_of(is_marked(marks, site.node), None))?;
+            push_without_squares(marks, rest, cells)
+        }
+    }
+}
+
+/// The cells of an order after these injections were solved, each at a live node.
+fn solved_cells<E: Enclosure>(
+    alloc: Global,
+    network: &Network,
+    marks: &[bool],
+    injections: &[NodeInjection],
+    sites: &[Site],
+    order: u32,
+) -> Result<OrderCells, AllocError>
+    requires whole { IsWholeNetwork network.now }
+    requires marks { AreMarks (exact_network network.now) marks.now }
+    requires some { 0 < length injections.now }
+    requires few { length injections.now < 2 ^ 32 }
+    requires fed { is_unfed (exact_network network.now) (map exact_injection injections.now) ≡ false }
+    requires low { 2 ≤ order }
+    requires high { order ≤ 50 }
+    ensures cells { IfOk result (λ cells. cells ≡ cells_with E.SCALE (solver_of E.SCALE (exact_network network.now) order (map exact_injection injections.now)) order sites.now) }
+    ensures fit { OnOk result (AreFitCells (cells_with E.SCALE (solver_of E.SCALE (exact_network network.now) order (map exact_injection injections.now)) order sites.now)) }
+    ensures truth { OnOk result (IsTrueSolver E.SCALE (solver_of E.SCALE (exact_network network.now) order (map exact_injection injections.now)) order (map exact_injection injections.now) sites.now) }
+{
+    let mut solver = OrderSolver::<E>::new(alloc, network)?;
+    let _answer = solver.solve(order, injections);
+    let mut cells = Items::new(alloc);
+    push_cells(&mut solver, marks, sites, &mut cells)?;
+    Ok(OrderCells { order, cells })
+}
+
+/// The cells of an order of which some injection is at a node that isn't live: it has no solution.
+fn unfed_cells(
+    alloc: Global,
+    marks: &[bool],
+    sites: &[Site],
+    order: u32,
+) -> Result<OrderCells, AllocError>
+    ensures { IfOk result (λ cells. cells ≡ record { order = order; cells = map (λ site. cell_of (get_or marks.now site.node false) None) sites.now }) }
+{
+    let mut cells = Items::new(alloc);
+    push_without_squares(marks, sites, &mut cells)?;
+    Ok(OrderCells { order, cells })
+}
+
+/// The cells of an order, for these injections.
+fn cells_for<E: Enclosure>(
+    alloc: Global,
+    network: &Network,
+    injections: &[NodeInjection],
+    sites: &[Site],
+    order: u32,
+) -> Result<OrderCells, AllocError>
+    requires whole { IsWholeNetwork network.now }
+    requires some { 0 < length injections.now }
+    requires few { length injections.now < 2 ^ 32 }
+    requires low { 2 ≤ order }
+    requires high { order ≤ 50 }
+    ensures cells { IfOk result (λ cells. cells ≡ cells_with E.SCALE (solver_of E.SCALE (exact_network network.now) order (map exact_injection injections.now)) order sites.now) }
+    ensures fit { OnOk result (AreFitCells (cells_with E.SCALE (solver_of E.SCALE (exact_network network.now) order (map exact_injection injections.now)) order sites.now)) }
+    ensures truth { OnOk result (IsTrueSolver E.SCALE (solver_of E.SCALE (exact_network network.now) order (map exact_injection injections.now)) order (map exact_injection injections.now) sites.now) }
+{
+    let marks = live(alloc, network)?;
+    if is_unfed(&marks, injections) {
+        unfed_cells(alloc, &marks, sites, order)
+    } else {
+        solved_cells::<E>(alloc, network, &marks, injections, sites, order)
+    }
+}
+
+/// The cells of an order of a spectrum.
+#[tactic(auto, unfolding(crate::specs::Table::cells_of, crate::specs::Table::solver_at))]
 fn cells_of<E: Enclosure>(
     alloc: Global,
     study: &Study,
     network: &Network,
     spectrum: &Spectrum,
+    sites: &[Site],
     order: u32,
 ) -> Result<OrderCells, AllocError>
     requires study { IsLawful study.now }
-    requires model { study.now.model ≡ study_model.Sequence }
-    requires network { IsNetworkOf study.now (sequence_of_order order) network.now }
+    requires exact { exact_network network.now ≡ network_at study.now order }
+    requires whole { IsWholeNetwork network.now }
     requires spectrum { IsLawfulSpectrum study.now spectrum.now.rows }
-    requires paths { All (HasPath study.now) spectrum.now.rows }
+    requires sites { sites.now ≡ sites_of study.now }
     requires low { 2 ≤ order }
     requires high { order ≤ 50 }
     requires occurs { occurs spectrum.now.rows order ≡ true }
@@ -158,34 +226,24 @@ fn cells_of<E: Enclosure>(
     ensures fit { OnOk result (AreFitCells (cells_of study.now spectrum.now.rows order)) }
     ensures truth { OnOk result (IsTrueOrder study.now spectrum.now.rows order) }
 {
-    let mut solver = solver_at::<E>(alloc, study, network, spectrum, order)?;
-    let marks = live(alloc, network)?;
-    let mut buses = Items::new(alloc);
-    push_bus_cells(&solver, &marks, 0, study.buses.as_slice(), &mut buses)?;
-    let mut points = Items::new(alloc);
-    push_point_cells(&mut solver, &marks, study.points.as_slice(), &mut points)?;
-    Ok(OrderCells {
-        order,
-        buses,
-        points,
-    })
+    let injections = inject(alloc, study, spectrum, order)?;
+    cells_for::<E>(alloc, network, injections.as_slice(), sites, order)
 }
 
 /// Puts the cells of an order, where the spectrum has it.
 fn push_order<E: Enclosure>(
     alloc: Global,
     study: &Study,
-    networks: &Networks,
+    networks: &StudyNetworks,
     spectrum: &Spectrum,
+    sites: &[Site],
     order: u32,
     table: &mut Items<OrderCells>,
 ) -> Result<(), AllocError>
     requires study { IsLawful study.now }
-    requires model { study.now.model ≡ study_model.Sequence }
-    requires positive { IsNetworkOf study.now Positive networks.now.positive }
-    requires zero { IsNetworkOf study.now Zero networks.now.zero }
+    requires networks { AreNetworksOf study.now networks.now }
     requires spectrum { IsLawfulSpectrum study.now spectrum.now.rows }
-    requires paths { All (HasPath study.now) spectrum.now.rows }
+    requires sites { sites.now ≡ sites_of study.now }
     requires low { 2 ≤ order }
     requires high { order ≤ 50 }
     requires scale { E.SCALE ≡ study.now.scale }
@@ -197,7 +255,7 @@ fn push_order<E: Enclosure>(
         return Ok(());
     }
     let network = network_at(study, networks, order);
-    let cells = cells_of::<E>(alloc, study, network, spectrum, order)?;
+    let cells = cells_of::<E>(alloc, study, network, spectrum, sites, order)?;
     table.push(cells)
 }
 
@@ -205,18 +263,17 @@ fn push_order<E: Enclosure>(
 fn push_orders<E: Enclosure>(
     alloc: Global,
     study: &Study,
-    networks: &Networks,
+    networks: &StudyNetworks,
     spectrum: &Spectrum,
+    sites: &[Site],
     order: u32,
     left: u32,
     table: &mut Items<OrderCells>,
 ) -> Result<(), AllocError>
     requires study { IsLawful study.now }
-    requires model { study.now.model ≡ study_model.Sequence }
-    requires positive { IsNetworkOf study.now Positive networks.now.positive }
-    requires zero { IsNetworkOf study.now Zero networks.now.zero }
+    requires networks { AreNetworksOf study.now networks.now }
     requires spectrum { IsLawfulSpectrum study.now spectrum.now.rows }
-    requires paths { All (HasPath study.now) spectrum.now.rows }
+    requires sites { sites.now ≡ sites_of study.now }
     requires low { 2 ≤ order }
     requires high { order + left ≤ 51 }
     requires scale { E.SCALE ≡ study.now.scale }
@@ -227,8 +284,17 @@ fn push_orders<E: Enclosure>(
     if left == 0 {
         return Ok(());
     }
-    push_order::<E>(alloc, study, networks, spectrum, order, table)?;
-    push_orders::<E>(alloc, study, networks, spectrum, order + 1, left - 1, table)
+    push_order::<E>(alloc, study, networks, spectrum, sites, order, table)?;
+    push_orders::<E>(
+        alloc,
+        study,
+        networks,
+        spectrum,
+        sites,
+        order + 1,
+        left - 1,
+        table,
+    )
 }
 
 /// The cells of all orders of the spectrum, ascending.
@@ -236,24 +302,29 @@ fn push_orders<E: Enclosure>(
 pub(crate) fn table_of<E: Enclosure>(
     alloc: Global,
     study: &Study,
-    networks: &Networks,
+    networks: &StudyNetworks,
     spectrum: &Spectrum,
 ) -> Result<Items<OrderCells>, AllocError>
     requires study { IsLawful study.now }
-    requires model { study.now.model ≡ study_model.Sequence }
-    requires positive { IsNetworkOf study.now Positive networks.now.positive }
-    requires zero { IsNetworkOf study.now Zero networks.now.zero }
+    requires networks { AreNetworksOf study.now networks.now }
     requires spectrum { IsLawfulSpectrum study.now spectrum.now.rows }
-    requires paths { All (HasPath study.now) spectrum.now.rows }
     requires scale { E.SCALE ≡ study.now.scale }
     ensures table { IfOk result (λ table. table ≡ table_of study.now spectrum.now.rows) }
     ensures fit { OnOk result (AllByRecursion AreFitCells (table_of study.now spectrum.now.rows)) }
     ensures truth { OnOk result (AllByRecursion (IsTrueOrder study.now spectrum.now.rows) (orders_of spectrum.now.rows)) }
 {
+    let sites = sites_of(alloc, study)?;
     let mut table = Items::new(alloc);
     let count = MAX_ORDER + 1 - MIN_ORDER;
     push_orders::<E>(
-        alloc, study, networks, spectrum, MIN_ORDER, count, &mut table,
+        alloc,
+        study,
+        networks,
+        spectrum,
+        sites.as_slice(),
+        MIN_ORDER,
+        count,
+        &mut table,
     )?;
     Ok(table)
 }

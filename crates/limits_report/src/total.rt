@@ -1,7 +1,7 @@
-// What all orders of a spectrum are together at one place.
+// What all orders of a spectrum are together at one site.
 ghost use Rattle.std.specs.Prelude.{◌≡◌, ◌++◌, [], IfOk, IfSome, OnOk};
 ghost use Rattle.std.specs.List.{AllByRecursion};
-ghost use Rattle.limits_report.specs.Cells.{cell_at, live_squares, all_orders, bus_column, point_column};
+ghost use Rattle.limits_report.specs.Cells.{cell_at, live_squares, all_orders, column_of};
 ghost use Rattle.distortion_bounds.specs.Squares.{AreSquares};
 ghost use Rattle.limits_report.specs.Fit.{IsFitCell, AreFitCells};
 ghost use Rattle.limits_report.specs.Gathering.{Gathers};
@@ -24,38 +24,20 @@ pub(crate) fn cell_at(cells: &[Cell], number: u32) -> Cell
     }
 }
 
-/// Puts what is computed at a bus, over the orders, at the end.
-pub(crate) fn push_bus_column(
+/// Puts the cells of a number, over the orders, at the end.
+pub(crate) fn push_column(
     table: &[OrderCells],
     number: u32,
     column: &mut Items<Cell>,
 ) -> Result<(), AllocError>
     requires { AllByRecursion AreFitCells table.now }
-    ensures { OnOk result (column.new ≡ column.old ++ bus_column number table.now) }
+    ensures { OnOk result (column.new ≡ column.old ++ column_of number table.now) }
 {
     match table {
         [] => Ok(()),
         [cells, rest @ ..] => {
-            column.push(cell_at(cells.buses.as_slice(), number))?;
-            push_bus_column(rest, number, column)
-        }
-    }
-}
-
-/// Puts what is computed at a point, over the orders, at the end.
-pub(crate) fn push_point_column(
-    table: &[OrderCells],
-    number: u32,
-    column: &mut Items<Cell>,
-) -> Result<(), AllocError>
-    requires { AllByRecursion AreFitCells table.now }
-    ensures { OnOk result (column.new ≡ column.old ++ point_column number table.now) }
-{
-    match table {
-        [] => Ok(()),
-        [cells, rest @ ..] => {
-            column.push(cell_at(cells.points.as_slice(), number))?;
-            push_point_column(rest, number, column)
+            column.push(cell_at(cells.cells.as_slice(), number))?;
+            push_column(rest, number, column)
         }
     }
 }

@@ -6,11 +6,10 @@ ghost use Rattle.scan_report.specs.Rows.{fields_of, HaveText};
 use harmonic_injection::{check_paths, injections_of_an_order};
 use limits_report::{LimitsReport, limits_rows};
 use scan_report::{LineBuf, Row, write_row};
-use sequence_network::networks_of;
 use spectrum_reader::{read_levels, read_spectrum};
 use std::alloc::{AllocError, Global};
 use std::test::Fail;
-use study_model::StudyModel;
+use study_networks::study_networks;
 use study_reader::read_study;
 
 /// A study, a spectrum, a levels file, and the text of the report.
@@ -23,7 +22,7 @@ struct Case {
     report: &'static str,
 }
 
-/// The report of three texts; none where a text is too long for the readers, or no study of sequences.
+/// The report of three texts; none where a text is too long for the readers.
 fn report(
     alloc: Global,
     study: &str,
@@ -37,10 +36,7 @@ fn report(
         return Ok(None);
     }
     let study = read_study(alloc, study.as_bytes())?;
-    if study.model != StudyModel::Sequence {
-        return Ok(None);
-    }
-    let networks = networks_of(alloc, &study)?;
+    let networks = study_networks(alloc, &study)?;
     let spectrum = read_spectrum(alloc, spectrum.as_bytes(), &study)?;
     check_paths(alloc, &study, &spectrum)?;
     let levels = read_levels(alloc, levels.as_bytes(), &study)?;
@@ -83,9 +79,21 @@ const RESONANT: &str =
 const GROUNDED: &str =
     "study = { version = 1, mva = 100 }\nbus = [{ name = \"HV\", kv = 100 }, { name = \"LV\", kv = 10 }]\nsource = [{ name = \"S1\", bus = \"HV\", r = 0, x = 1, r0 = 0, x0 = 1 }]\ntransformer = [{ name = \"T1\", from = \"HV\", to = \"LV\", mva = 10, r = 0, x = 10, from_conn = \"grounded\", to_conn = \"delta\" }]\npcc = [{ name = \"P1\", bus = \"LV\", element = \"T1\", isc = 50000, il = 2500 }]\n";
 
+/// One ohm in each of three phases.
+const THREE_PHASES: &str =
+    "study = { version = 1, mva = 100, model = \"phases\" }\nbus = [{ name = \"B1\", kv = 10 }]\nsource = [{ name = \"S1\", bus = \"B1\", r = 0, x = 1, r0 = 0, x0 = 1 }]\n";
+
+/// The same with a bank of 25 ohms in each phase, and a point at the bank. Its star isn't grounded, so the zero sequence sees the source alone.
+const POINT_OF_PHASES: &str =
+    "study = { version = 1, mva = 100, model = \"phases\" }\nbus = [{ name = \"B1\", kv = 10 }]\nsource = [{ name = \"S1\", bus = \"B1\", r = 0, x = 1, r0 = 0, x0 = 1 }]\nbank = [{ name = \"K1\", bus = \"B1\", q = 4 }]\npcc = [{ name = \"P1\", bus = \"B1\", element = \"K1\", isc = 50000, il = 2500 }]\n";
+
+/// A bus that a load ties to ground in phase a alone: the nodes of b and c aren't live.
+const ONE_PHASE: &str =
+    "study = { version = 1, mva = 100, model = \"phases\" }\nbus = [{ name = \"B1\", kv = 10 }]\nload = [{ name = \"D1\", bus = \"B1\", model = \"cigre\", p = 1, q = 1, phase = \"a\" }]\n";
+
 const NO_LEVELS: &str = "bus,order,percent\n";
 
-fn cases() -> [Case; 10] {
+fn cases() -> [Case; 13] {
     [
         Case {
             label: "a voltage",
@@ -156,6 +164,27 @@ fn cases() -> [Case; 10] {
             spectrum: "order,bus,re,im\n3,HV,100,0\n",
             levels: NO_LEVELS,
             report: "voltage,HV,s,3,0.5144,0.5145,1.5000,pass\nthd,HV,s,0.5144,0.5145,2.5000,pass\nthd,LV,s,0.0000,0.0000,5.0000,pass\ntdd,P1,s,0.0000,0.0000,8.0000,pass\nsummary,limits,4,0,0\nend,0\n",
+        },
+        Case {
+            label: "a current in one of three phases",
+            study: THREE_PHASES,
+            spectrum: "order,bus,phase,re,im\n5,B1,a,100,0\n",
+            levels: NO_LEVELS,
+            report: "voltage,B1,a,5,8.6602,8.6603,3.0000,fail\nvoltage,B1,b,5,0.0000,0.0000,3.0000,pass\nvoltage,B1,c,5,0.0000,0.0000,3.0000,pass\nthd,B1,a,8.6602,8.6603,5.0000,fail\nthd,B1,b,0.0000,0.0000,5.0000,pass\nthd,B1,c,0.0000,0.0000,5.0000,pass\nsummary,limits,4,2,0\nend,3\n",
+        },
+        Case {
+            label: "two orders at a point in three phases, beside a level",
+            study: POINT_OF_PHASES,
+            spectrum: "order,bus,phase,re,im\n3,B1,c,100,0\n2,B1,b,100,0\n",
+            levels: "bus,order,percent\nB1,3,8.2\n",
+            report: "voltage,B1,a,2,0.2199,0.2200,3.0000,pass\nvoltage,B1,b,2,3.9039,3.9040,3.0000,fail\nvoltage,B1,c,2,0.2199,0.2200,3.0000,pass\nvoltage,B1,a,3,0.9742,0.9743,8.2000,pass\nvoltage,B1,b,3,0.9742,0.9743,8.2000,pass\nvoltage,B1,c,3,7.1447,7.1448,8.2000,pass\nthd,B1,a,0.9987,0.9988,5.0000,pass\nthd,B1,b,4.0237,4.0238,5.0000,pass\nthd,B1,c,7.1480,7.1481,5.0000,fail\ncurrent,P1,a,2,0.2539,0.2540,3.5000,pass\ncurrent,P1,b,2,0.5079,0.5080,3.5000,pass\ncurrent,P1,c,2,0.2539,0.2540,3.5000,pass\ncurrent,P1,a,3,0.7499,0.7501,7.0000,pass\ncurrent,P1,b,3,0.7499,0.7501,7.0000,pass\ncurrent,P1,c,3,1.4999,1.5001,7.0000,pass\ntdd,P1,a,0.7918,0.7919,8.0000,pass\ntdd,P1,b,0.9058,0.9059,8.0000,pass\ntdd,P1,c,1.5213,1.5214,8.0000,pass\nsummary,limits,16,2,0\nend,3\n",
+        },
+        Case {
+            label: "a current into a phase that isn't live",
+            study: ONE_PHASE,
+            spectrum: "order,bus,phase,re,im\n5,B1,b,0,0\n7,B1,a,0,0\n",
+            levels: NO_LEVELS,
+            report: "voltage,B1,a,5,-,-,3.0000,undecided\nvoltage,B1,a,7,0.0000,0.0000,3.0000,pass\nthd,B1,a,-,-,5.0000,undecided\nthd,B1,b,0.0000,0.0000,5.0000,pass\nthd,B1,c,0.0000,0.0000,5.0000,pass\nsummary,limits,3,0,2\nend,4\n",
         },
     ]
 }

@@ -6,11 +6,11 @@ ghost use Rattle.spectrum_reader.specs.Lawful.{IsLawfulSpectrum};
 use crate::studies::{one_bus_of_phases, two_buses};
 use exact_fraction::Fraction;
 use harmonic_injection::{NodeInjection, check_paths, inject, injections_of_an_order};
-use sequence_network::check_live;
 use spectrum_reader::{Spectrum, SpectrumFault, read_spectrum};
 use std::alloc::Global;
 use std::test::Fail;
-use study_model::{Study, StudyModel};
+use study_model::Study;
+use study_networks::study_networks;
 use study_reader::read_study;
 
 /// A node, and the real and the imaginary part as fractions n/d.
@@ -90,13 +90,14 @@ fn orders_at_phases(rt: HostRuntime) -> Result<(), Fail> {
 const GROUNDED: &str =
     "study = { version = 1, mva = 100 }\nbus = [{ name = \"HV\", kv = 100 }, { name = \"LV\", kv = 10 }]\nsource = [{ name = \"S1\", bus = \"HV\", r = 0, x = 1, r0 = 0, x0 = 1 }]\ntransformer = [{ name = \"T1\", from = \"HV\", to = \"LV\", mva = 10, r = 0, x = 10, from_conn = \"grounded\", to_conn = \"delta\" }]\n";
 
-fn path(alloc: Global, text: &[u8]) -> Result<Option<SpectrumFault>, Fail> {
+/// A bus that a load ties to ground in phase a alone: the nodes of b and c have no path.
+const ONE_PHASE: &str =
+    "study = { version = 1, mva = 100, model = \"phases\" }\nbus = [{ name = \"B1\", kv = 10 }]\nload = [{ name = \"D1\", bus = \"B1\", model = \"cigre\", p = 1, q = 1, phase = \"a\" }]\n";
+
+fn path(alloc: Global, study: &str, text: &[u8]) -> Result<Option<SpectrumFault>, Fail> {
     injections_of_an_order();
-    let study = read_study(alloc, GROUNDED.as_bytes())?;
-    check_live(alloc, &study)?;
-    if study.model != StudyModel::Sequence {
-        return Err("another model".into());
-    }
+    let study = read_study(alloc, study.as_bytes())?;
+    study_networks(alloc, &study)?;
     let spectrum = spectrum(alloc, &study, text)?;
     match check_paths(alloc, &study, &spectrum) {
         Ok(()) => Ok(None),
@@ -126,7 +127,9 @@ const PATHS: [(&[u8], Option<SpectrumFault>); 7] = [
 #[test]
 fn paths_of_rows(rt: HostRuntime) -> Result<(), Fail> {
     for (text, fault) in PATHS {
-        assert!(rt; path(rt.alloc(), text)? == fault);
+        assert!(rt; path(rt.alloc(), GROUNDED, text)? == fault);
     }
+    let phases = b"order,bus,phase,re,im\n5,B1,a,1,0\n3,B1,b,1,0\n";
+    assert!(rt; path(rt.alloc(), ONE_PHASE, phases)? == None);
     Ok(())
 }

@@ -1,26 +1,48 @@
-use Rattle.std.proofs.Common.{ap, sym, subst, length, arith, ◌<◌, List, Bool}
-use Rattle.std.specs.List.{AllByRecursion}
-use Rattle.study_model.specs.declared.records.Pcc.{Pcc}
-use Rattle.harmonic_injection.specs.Paths.{sequence_of_order}
-use Rattle.limits_report.proofs.Solving.{solver_marks, buses_marked, points_marked}
+use Rattle.std.proofs.Common.{◌≡◌, ◌∙◌, ap, map, length, arith}
+use Rattle.std.proofs.lemmas.List.{length-map}
+use Rattle.std.specs.Prelude.{IfOk, OnOk}
+use Rattle.net_branch.specs.Exact.{exact_network}
+use Rattle.node_injection.specs.Injected.{exact_injection}
+use Rattle.harmonic_injection.proofs.Nodes.{few}
+use Rattle.limits_report.specs.declared.cell.OrderCells.{OrderCells}
+use Rattle.limits_report.specs.Fit.{AreFitCells}
+use Rattle.limits_report.proofs.Solving.{some_injection, placed_cells, placed_truth}
 use Rattle.limits_report.proofs.table.cells_of.Goals as goal
 
-pub push_bus_cells-requires-clause-marks : goal.push_bus_cells-requires-clause-marks
-push_bus_cells-requires-clause-marks g c =
-    solver_marks c.args.study.now c.args.spectrum.now.rows c.args.order c.args.network.now c.in_ok-marks.marks.items c.deref.result.now c.in_ok-solver.solver
-    c.requires.network c.in_ok-marks.ensures c.deref.ensures.value c.in_ok-solver.ensures.value
+pub cells_for-requires-clause-some : goal.cells_for-requires-clause-some
+cells_for-requires-clause-some g c =
+    let injections = c.in_ok-injections.injections in
+    omega (
+      arith,
+      ap length c.as_slice.ensures,
+      length-map injections exact_injection,
+      ap length c.in_ok-injections.ensures,
+      some_injection c.args.study.now c.args.spectrum.now.rows c.args.order c.requires.occurs,
+    )
 
-pub push_bus_cells-requires-clause-within : goal.push_bus_cells-requires-clause-within
-push_bus_cells-requires-clause-within g c =
-    omega (arith, ap length c.as_slice.ensures, ap length c.deref.ensures.value, buses_marked c.args.study.now (sequence_of_order c.args.order) c.args.network.now c.in_ok-marks.marks.items c.requires.network c.in_ok-marks.ensures)
+pub cells_for-requires-clause-few : goal.cells_for-requires-clause-few
+cells_for-requires-clause-few g c =
+    let injections = c.in_ok-injections.injections in
+    omega (
+      arith,
+      ap length c.as_slice.ensures,
+      length-map injections exact_injection,
+      ap length c.in_ok-injections.ensures,
+      few c.args.study.now c.args.spectrum.now.rows c.args.order,
+      c.requires.spectrum.few,
+    )
 
-pub push_point_cells-requires-clause-marks : goal.push_point_cells-requires-clause-marks
-push_point_cells-requires-clause-marks g c =
-    solver_marks c.args.study.now c.args.spectrum.now.rows c.args.order c.args.network.now c.in_ok-marks.marks.items c.deref-2.result.now c.in_ok-solver.solver
-    c.requires.network c.in_ok-marks.ensures c.deref-2.ensures.value c.in_ok-solver.ensures.value
+pub returns-clause-cells : goal.returns-clause-cells
+returns-clause-cells g c =
+    placed_cells c.args.study.now c.args.spectrum.now.rows c.args.order (λ (z : OrderCells). IfOk c.cells_for.result (λ cells. cells ≡ z)) g.E.Enclosure.SCALE (exact_network c.args.network.now)
+    (map exact_injection c.as_slice.result.now) c.args.sites.now c.requires.scale c.requires.exact (ap (map exact_injection) c.as_slice.ensures ∙ c.in_ok-injections.ensures) c.requires.sites c.cells_for.ensures.cells
 
-pub push_point_cells-requires-clause-points : goal.push_point_cells-requires-clause-points
-push_point_cells-requires-clause-points g c =
-    let each = points_marked c.args.study.now (sequence_of_order c.args.order) c.args.network.now c.in_ok-marks.marks.items c.requires.study c.requires.network c.in_ok-marks.ensures in
-    let many = subst (λ (xs : List Bool). AllByRecursion (λ (point : Pcc). point.bus < length xs) c.args.study.now.points) (sym c.deref-2.ensures.value) each in
-    subst (λ (ps : List Pcc). AllByRecursion (λ (point : Pcc). point.bus < length c.deref-2.result.now) ps) (sym c.as_slice-2.ensures) many
+pub returns-clause-fit : goal.returns-clause-fit
+returns-clause-fit g c =
+    placed_cells c.args.study.now c.args.spectrum.now.rows c.args.order (λ (z : OrderCells). OnOk c.cells_for.result (AreFitCells z)) g.E.Enclosure.SCALE (exact_network c.args.network.now)
+    (map exact_injection c.as_slice.result.now) c.args.sites.now c.requires.scale c.requires.exact (ap (map exact_injection) c.as_slice.ensures ∙ c.in_ok-injections.ensures) c.requires.sites c.cells_for.ensures.fit
+
+pub returns-clause-truth : goal.returns-clause-truth
+returns-clause-truth g c =
+    placed_truth c.cells_for.result c.args.study.now c.args.spectrum.now.rows c.args.order g.E.Enclosure.SCALE (exact_network c.args.network.now)
+    (map exact_injection c.as_slice.result.now) c.args.sites.now c.requires.scale c.requires.exact (ap (map exact_injection) c.as_slice.ensures ∙ c.in_ok-injections.ensures) c.requires.sites c.cells_for.ensures.truth
