@@ -32,6 +32,14 @@ for report in sorted((TOP / "examples").glob("*.csv")):
     study = report.with_suffix(".toml")
     if f"(../examples/{study.name})" not in recipes:
         differing.append(f"docs/recipes.md and examples/{study.name}")
+limits = text("crates/limits_cases/src/plant.rt")
+for file in sorted((TOP / "examples/plant").glob("*.csv")):
+    if f'= "\\\n{file.read_text()}";' not in limits:
+        differing.append(f"the tests of crates/limits_cases and examples/plant/{file.name}")
+    if f"\n{file.read_text()}```\n" not in recipes:
+        differing.append(f"docs/recipes.md and examples/plant/{file.name}")
+if f'r#"{text("examples/plant.toml")}"#' not in limits:
+    differing.append("the tests of crates/limits_cases and examples/plant.toml")
 for block in recipes.split("```toml\n")[1:]:
     if not any(block.startswith(example.read_text() + "```\n") for example in (TOP / "examples").glob("*.toml")):
         differing.append("docs/recipes.md and a study of examples/")

@@ -1,5 +1,5 @@
--- Bytes are one accepted study at most, or are refused for one fault at most, and not both.
-use Rattle.std.proofs.Common.{◌≡◌, ◌≢◌, ◌∙◌, ◌≤◌, inr, ℕ, List, length, IfSome, Err, sym, subst}
+-- Bytes are one accepted study at most, or are refused for one fault at most, and not both; and how a reading ends that meets a fault.
+use Rattle.std.proofs.Common.{◌≡◌, ◌≢◌, ◌≤◌, inr, ℕ, List, length, IfSome, Err, refl, ap, sym, subst}
 use Rattle.harm_io.specs.Shelves.{ShelfState, asked_too, Fetches}
 use Rattle.harm_io.specs.declared.shelf.FetchFault.{FetchFault}
 use Rattle.harm_io.specs.declared.shelf.FetchFault.TheVariants as fetch
@@ -8,61 +8,103 @@ use Rattle.study_model.specs.declared.fault.StudyFault.TheVariants as fault
 use Rattle.study_model.specs.declared.records.Study.{Study}
 use Rattle.study_reader.specs.StudyOf.{IsStudy, Refused as Unread}
 use Rattle.study_reader.proofs.Refusals.{same_study, not_refused as not_unread, same_refusal as same_unread}
-use Rattle.sequence_network.specs.Refusals.{IsLiveRefusal}
-use Rattle.harmscan_core.specs.Accepted.{IsAccepted, IsRefused, unread, network}
-use Rattle.sequence_network.proofs.Liveness.{no_refusal}
-use Rattle.sequence_network.proofs.LiveRefusals.{same_live_refusal}
-use Rattle.harmscan_core.specs.Outcome.{ReadsStudy, RefusesNetworks, GivenRefusal, EndsAt, outcome_of_fetch, longest_file}
+use Rattle.study_networks.specs.Networks.{IsNetworksRefusal}
+use Rattle.study_networks.proofs.Refusals.{same_networks_refusal, no_networks_refusal}
+use Rattle.harmscan_core.specs.Accepted.{IsAccepted, IsRefused, unread, network, RefusesStudy}
+use Rattle.harmscan_core.specs.Files.{longest_file, Reads}
+use Rattle.harmscan_core.specs.Outcome.{RefusesNetworks, EndsAt, outcome_of_fetch}
+use Rattle.harmscan_core.specs.Subject.{StudyBy}
+use Rattle.harmscan_core.specs.declared.files.File.{File}
+use Rattle.harmscan_core.specs.declared.files.File.TheVariants as file
+use Rattle.harmscan_core.specs.declared.files.Refusal.{Refusal}
+use Rattle.harmscan_core.specs.declared.files.Refusal.TheVariants as refusal
 use Rattle.harmscan_core.specs.declared.outcome.Outcome.{Outcome}
 use Rattle.harmscan_core.specs.declared.outcome.Outcome.TheVariants.{WordsRefused, ReadFailed, TooLarge, Refused, WriteFailed, NoMemory, Written}
+use Rattle.harmscan_core.proofs.Chains.{IsDecided}
 
-pub same_accepted : (bytes : List ℕ) (s t : Study) → IsAccepted bytes s → IsAccepted bytes t → s ≡ t
+same_accepted : (bytes : List ℕ) (s t : Study) → IsAccepted bytes s → IsAccepted bytes t → s ≡ t
 same_accepted bytes s t a b = same_study bytes s t a.read b.read
 
-pub not_refused : (bytes : List ℕ) (study : Study) (f : StudyFault) → IsAccepted bytes study → IsRefused bytes f → ⊥
+not_refused : (bytes : List ℕ) (study : Study) (f : StudyFault) → IsAccepted bytes study → IsRefused bytes f → ⊥
 not_refused bytes study f a (unread r) = not_unread bytes study f a.read r
-not_refused bytes study f a (network s i l) = no_refusal study a.live f (subst (λ (x : Study). IsLiveRefusal x f) (same_study bytes s study i a.read) l)
+not_refused bytes study f a (network s i l) = no_networks_refusal study a.live f (subst (λ (x : Study). IsNetworksRefusal x f) (same_study bytes s study i a.read) l)
 
-pub same_refusal : (bytes : List ℕ) (f g : StudyFault) → IsRefused bytes f → IsRefused bytes g → f ≡ g
+same_refusal : (bytes : List ℕ) (f g : StudyFault) → IsRefused bytes f → IsRefused bytes g → f ≡ g
 same_refusal bytes f g (unread r) (unread q) = same_unread bytes f g r q
 same_refusal bytes f g (unread r) (network s i l) = absurd (not_unread bytes s f i r)
 same_refusal bytes f g (network s i l) (unread q) = absurd (not_unread bytes s g i q)
-same_refusal bytes f g (network s i l) (network t j m) = same_live_refusal t f g (subst (λ (x : Study). IsLiveRefusal x f) (same_study bytes s t i j) l) m
+same_refusal bytes f g (network s i l) (network t j m) = same_networks_refusal t f g (subst (λ (x : Study). IsNetworksRefusal x f) (same_study bytes s t i j) l) m
+
+not_both : (bytes : List ℕ) (study : Study) (r : Refusal) → IsAccepted bytes study → RefusesStudy bytes r → ⊥
+not_both bytes study (refusal.Study f) a h = not_refused bytes study f a h.1
+not_both bytes study (refusal.Spectrum f) a h = absurd h
+not_both bytes study (refusal.Levels f) a h = absurd h
+
+one_refusal : (bytes : List ℕ) (q r : Refusal) → RefusesStudy bytes q → RefusesStudy bytes r → q ≡ r
+one_refusal bytes (refusal.Study f) (refusal.Study g) h k = ap refusal.Study (same_refusal bytes f g h.1 k.1)
+one_refusal bytes (refusal.Study f) (refusal.Spectrum g) h k = absurd k
+one_refusal bytes (refusal.Study f) (refusal.Levels g) h k = absurd k
+one_refusal bytes (refusal.Spectrum f) r h k = absurd h
+one_refusal bytes (refusal.Levels f) r h k = absurd h
+
+pub study_decided : IsDecided IsAccepted RefusesStudy
+study_decided = record { one = same_accepted; not_both = not_both; one_refusal = one_refusal }
+
+-- ---- how a reading ends
+-- at a fetch that gave no file
+pub unfetched : (A : Type 0) (file : File) (Is : List ℕ → A → Type 0) (Refuses : List ℕ → Refusal → Type 0) (name : List ℕ) (before now : ShelfState) (f : FetchFault) (o : Outcome)
+    → Fetches name longest_file before now (Err f) → o ≡ outcome_of_fetch file f → Reads A file Is Refuses name before now (Err o)
+unfetched A file Is Refuses name before now fetch.Failed o h e = subst (λ (x : Outcome). Reads A file Is Refuses name before now (Err x)) (sym e) (refl, h)
+unfetched A file Is Refuses name before now (fetch.TooLarge taken) o h e = subst (λ (x : Outcome). Reads A file Is Refuses name before now (Err x)) (sym e) (h.2, refl, h.1)
+unfetched A file Is Refuses name before now fetch.NoMemory o h e = subst (λ (x : Outcome). Reads A file Is Refuses name before now (Err x)) (sym e) h
+
+-- at a refusal of bytes that were given
+refuses : (A : Type 0) (file : File) (Is : List ℕ → A → Type 0) (Refuses : List ℕ → Refusal → Type 0) (name bytes : List ℕ) (before now : ShelfState) (r : Refusal)
+    → now ≡ asked_too before name → IfSome (before.file name) (λ b. bytes ≡ b) → length bytes ≤ longest_file → Refuses bytes r → Reads A file Is Refuses name before now (Err (Refused r))
+refuses A file Is Refuses name bytes before now r e given fits is = (e, record { bytes = bytes; given = given; holds = (fits, is) })
+
+-- at a fault of bytes that were given
+pub faulty : (A : Type 0) (file : File) (Is : List ℕ → A → Type 0) (Refuses : List ℕ → Refusal → Type 0) (name bytes : List ℕ) (before now : ShelfState) (F : Type 0) (no_memory : F) (refused : F → Refusal) (f : F) (o : Outcome)
+    → now ≡ asked_too before name → IfSome (before.file name) (λ b. bytes ≡ b) → length bytes ≤ longest_file → (f ≢ no_memory → Refuses bytes (refused f)) → EndsAt no_memory refused f o
+    → Reads A file Is Refuses name before now (Err o)
+faulty A file Is Refuses name bytes before now F no_memory refused f NoMemory e given fits is h = inr e
+faulty A file Is Refuses name bytes before now F no_memory refused f (Refused r) e given fits is h =
+    refuses A file Is Refuses name bytes before now r e given fits (subst (Refuses bytes) (sym h.1) (is h.0))
+faulty A file Is Refuses name bytes before now F no_memory refused f WordsRefused e given fits is h = absurd h
+faulty A file Is Refuses name bytes before now F no_memory refused f (ReadFailed g) e given fits is h = absurd h
+faulty A file Is Refuses name bytes before now F no_memory refused f (TooLarge g) e given fits is h = absurd h
+faulty A file Is Refuses name bytes before now F no_memory refused f WriteFailed e given fits is h = absurd h
+faulty A file Is Refuses name bytes before now F no_memory refused f (Written s) e given fits is h = absurd h
+
+-- ---- of a study
+pub study_unfetched : (name : List ℕ) (before now : ShelfState) (f : FetchFault) (o : Outcome) → Fetches name longest_file before now (Err f) → o ≡ outcome_of_fetch file.Study f → StudyBy Reads name before now (Err o)
+study_unfetched name before now f o = unfetched Study file.Study IsAccepted RefusesStudy name before now f o
 
 -- bytes that were given for a file are a study whose networks are refused
 pub networks_refused : (name bytes : List ℕ) (before now : ShelfState) (study : Study) (o : Outcome) → now ≡ asked_too before name → IfSome (before.file name) (λ b. bytes ≡ b) → length bytes ≤ longest_file
-    → IsStudy bytes study → RefusesNetworks study o → ReadsStudy name before now (Err o)
+    → IsStudy bytes study → RefusesNetworks study o → StudyBy Reads name before now (Err o)
 networks_refused name bytes before now study NoMemory e given fits i r = inr e
-networks_refused name bytes before now study (Refused f) e given fits i r = (e, record { bytes = bytes; given = given; fits = fits; no_memory = r.0; is = network study i r.1 })
+networks_refused name bytes before now study (Refused (refusal.Study f)) e given fits i r =
+    refuses Study file.Study IsAccepted RefusesStudy name bytes before now (refusal.Study f) e given fits (r.0, network study i r.1)
+networks_refused name bytes before now study (Refused (refusal.Spectrum f)) e given fits i r = absurd r
+networks_refused name bytes before now study (Refused (refusal.Levels f)) e given fits i r = absurd r
 networks_refused name bytes before now study WordsRefused e given fits i r = absurd r
-networks_refused name bytes before now study ReadFailed e given fits i r = absurd r
-networks_refused name bytes before now study TooLarge e given fits i r = absurd r
+networks_refused name bytes before now study (ReadFailed f) e given fits i r = absurd r
+networks_refused name bytes before now study (TooLarge f) e given fits i r = absurd r
 networks_refused name bytes before now study WriteFailed e given fits i r = absurd r
 networks_refused name bytes before now study (Written s) e given fits i r = absurd r
 
--- ---- faults and outcomes
-pub fetch_refused : (name : List ℕ) (before now : ShelfState) (r : FetchFault) (o : Outcome) → Fetches name longest_file before now (Err r) → o ≡ outcome_of_fetch r → ReadsStudy name before now (Err o)
-fetch_refused name before now fetch.Failed o h e = subst (λ (x : Outcome). ReadsStudy name before now (Err x)) (sym e) h
-fetch_refused name before now (fetch.TooLarge taken) o h e = subst (λ (x : Outcome). ReadsStudy name before now (Err x)) (sym e) (h.2, h.1)
-fetch_refused name before now fetch.NoMemory o h e = subst (λ (x : Outcome). ReadsStudy name before now (Err x)) (sym e) h
-
 -- bytes that were given for a file are no study
 pub unread_refused : (name bytes : List ℕ) (before now : ShelfState) (f : StudyFault) (o : Outcome) → now ≡ asked_too before name → IfSome (before.file name) (λ b. bytes ≡ b) → length bytes ≤ longest_file
-    → (f ≢ fault.NoMemory → Unread bytes f) → EndsAt f o → ReadsStudy name before now (Err o)
-unread_refused name bytes before now f NoMemory e given fits r h = inr e
-unread_refused name bytes before now f (Refused g) e given fits r h =
-    (e, subst (GivenRefusal (before.file name)) (sym h.1) (record { bytes = bytes; given = given; fits = fits; no_memory = h.0; is = unread (r h.0) }))
-unread_refused name bytes before now f WordsRefused e given fits r h = absurd h
-unread_refused name bytes before now f ReadFailed e given fits r h = absurd h
-unread_refused name bytes before now f TooLarge e given fits r h = absurd h
-unread_refused name bytes before now f WriteFailed e given fits r h = absurd h
-unread_refused name bytes before now f (Written s) e given fits r h = absurd h
+    → (f ≢ fault.NoMemory → Unread bytes f) → EndsAt fault.NoMemory refusal.Study f o → StudyBy Reads name before now (Err o)
+unread_refused name bytes before now f o e given fits r h =
+    faulty Study file.Study IsAccepted RefusesStudy name bytes before now StudyFault fault.NoMemory refusal.Study f o e given fits (λ n. (n, unread (r n))) h
 
-pub networks_end : (study : Study) (f : StudyFault) (o : Outcome) → (f ≢ fault.NoMemory → IsLiveRefusal study f) → EndsAt f o → RefusesNetworks study o
+pub networks_end : (study : Study) (f : StudyFault) (o : Outcome) → (f ≢ fault.NoMemory → IsNetworksRefusal study f) → EndsAt fault.NoMemory refusal.Study f o → RefusesNetworks study o
 networks_end study f NoMemory r h = tt
-networks_end study f (Refused g) r h = (λ e. h.0 (sym h.1 ∙ e), subst (IsLiveRefusal study) (sym h.1) (r h.0))
+networks_end study f (Refused q) r h = subst (λ (x : Refusal). RefusesNetworks study (Refused x)) (sym h.1) (h.0, r h.0)
 networks_end study f WordsRefused r h = absurd h
-networks_end study f ReadFailed r h = absurd h
-networks_end study f TooLarge r h = absurd h
+networks_end study f (ReadFailed g) r h = absurd h
+networks_end study f (TooLarge g) r h = absurd h
 networks_end study f WriteFailed r h = absurd h
 networks_end study f (Written s) r h = absurd h

@@ -1,27 +1,25 @@
 -- The study of each drill is accepted, and what its report says.
-use Rattle.std.proofs.Common.{◌≡◌, ◌∙◌, ◌<◌, inl, ℕ, None, Err, List, [], ◌∷◌, ◌++◌, length, ap, sym, subst, refl, append-nil}
+use Rattle.std.proofs.Common.{◌≡◌, ◌∙◌, ◌<◌, inl, ℕ, Err, List, [], ◌∷◌, ◌++◌, length, ap, sym, subst, refl, append-nil}
 use Rattle.std.specs.List.{AllByRecursion}
 use Rattle.std.proofs.lemmas.List.Elements.{recursion_from_All}
 use Rattle.harm_io.specs.Sinks.{SinkState, took, Writes}
 use Rattle.harm_io.specs.declared.sink.PutFault.{PutFault}
 use Rattle.network_theory.specs.Network.{Network}
-use Rattle.network_theory.specs.Live.{Live}
 use Rattle.band_subdivision.specs.BoxText.{HasText}
 use Rattle.scan_report.specs.Rows.{row_text}
 use Rattle.scan_report.specs.declared.rows.Row.{Row}
 use Rattle.scan_report.specs.declared.rows.Row.TheVariants.{Drill, End}
 use Rattle.scan_report.specs.declared.boxes.BoxRow.{BoxRow}
-use Rattle.study_model.specs.Lawful.{IsLawfulScan}
-use Rattle.study_model.specs.declared.words.Sequence.{Sequence}
+use Rattle.study_model.specs.Lawful.{IsLawful, IsLawfulScan}
+use Rattle.study_model.specs.declared.words.StudyModel.TheVariants as study_model
 use Rattle.study_model.specs.declared.words.Sequence.TheVariants.{Positive}
 use Rattle.study_model.specs.declared.records.ScanItem.{ScanItem}
 use Rattle.study_model.specs.declared.records.Study.{Study}
-use Rattle.study_reader.specs.Built.{IsBuilt, unbuilt}
-use Rattle.sequence_network.specs.Built.{IsNetworkOf}
 use Rattle.sequence_network.specs.Networks.{network_of}
-use Rattle.sequence_network.specs.declared.live.Networks.{Networks}
-use Rattle.sequence_network.specs.Refusals.{IsLiveRefusal}
-use Rattle.sequence_network.proofs.Liveness.{no_refusal}
+use Rattle.study_networks.specs.Networks.{HasLive, IsNetworksRefusal}
+use Rattle.study_networks.specs.Scanned.{scanned_network}
+use Rattle.study_networks.proofs.Models.{live_sequences}
+use Rattle.study_networks.proofs.Refusals.{no_networks_refusal}
 use Rattle.drill_study.specs.Drill.{drill_scan, drill_of}
 use Rattle.drill_study.proofs.Lawful.{drill_lawful}
 use Rattle.drill_study.proofs.Live.{drill_live}
@@ -29,9 +27,11 @@ use Rattle.harmscan_core.specs.Scan.{boxes_in}
 use Rattle.harmscan_core.specs.Fold.{most_boxes, found_in, nothing_found, status_of, counted_status}
 use Rattle.harmscan_core.specs.Report.{summary_of, report_status, drill_text}
 use Rattle.harmscan_core.specs.Texts.{summary_text, end_text, drill_head_text, counts_text, counted_text}
-use Rattle.harmscan_core.specs.Plan.{CanScan, AreNetworksOf}
+use Rattle.harmscan_core.specs.Plan.{CanScan}
 use Rattle.harmscan_core.specs.Claim.{HoldsOfStudy}
 use Rattle.harmscan_core.specs.Outcome.{IsReported, Reports, RefusesNetworks, outcome_of_put}
+use Rattle.harmscan_core.specs.Subject.{drilled}
+use Rattle.harmscan_core.specs.declared.files.Refusal.TheVariants as refusal
 use Rattle.harmscan_core.specs.declared.outcome.Outcome.{Outcome}
 use Rattle.harmscan_core.specs.declared.outcome.Outcome.TheVariants.{WordsRefused, ReadFailed, TooLarge, Refused, WriteFailed, NoMemory, Written}
 use Rattle.harmscan_core.proofs.Folds.{summary_is, found_is}
@@ -46,15 +46,15 @@ pub drill_scale : (number : ℕ) → (drill_of number).scale ≡ 40
 unfolding drill_of
 drill_scale number = refl
 
-drill_built : (number : ℕ) → unbuilt (drill_of number) ≡ None
-unfolding drill_of unbuilt
-drill_built number = refl
+drill_model : (number : ℕ) → (drill_of number).model ≡ study_model.Sequence
+unfolding drill_of
+drill_model number = refl
 
-built : (number : ℕ) → IsBuilt (drill_of number)
-built number = record { lawful = drill_lawful number; none = drill_built number }
+has_live : (number : ℕ) → HasLive (drill_of number)
+has_live number = live_sequences (drill_of number) (drill_model number) (drill_live number)
 
-pub is_built : (number : ℕ) (study : Study) → study ≡ drill_of number → IsBuilt study
-is_built number study same = subst IsBuilt (sym same) (built number)
+pub is_lawful : (number : ℕ) (study : Study) → study ≡ drill_of number → IsLawful study
+is_lawful number study same = subst IsLawful (sym same) (drill_lawful number)
 
 abbrev IsLawfulScanOf : Study → ScanItem → Type 0
 IsLawfulScanOf study scan = IsLawfulScan study.version study.model study.buses scan
@@ -65,19 +65,17 @@ scan_is_lawful number =
     let all = recursion_from_All (IsLawfulScanOf study) study.scans (drill_lawful number).scans in
     (subst (AllByRecursion (IsLawfulScanOf study)) (drill_scans number) all).0
 
--- each bus is live in the positive network
-pub scan_is_live : (number : ℕ) → Live (network_of (drill_of number) drill_scan.network) drill_scan.bus
-scan_is_live number = (drill_live number).buses 59 (scan_is_lawful number).bus
-
 -- a drill's networks are not refused
-pub not_accepted : (number : ℕ) (study : Study) (o : Outcome) (text : List ℕ) (out : SinkState) → study ≡ drill_of number → RefusesNetworks study o → Reports (drill_of number) text out out o
-not_accepted number study NoMemory text out same r = inl refl
-not_accepted number study (Refused f) text out same r = absurd (no_refusal (drill_of number) (drill_live number) f (subst (λ (s : Study). IsLiveRefusal s f) same r.1))
-not_accepted number study WordsRefused text out same r = absurd r
-not_accepted number study ReadFailed text out same r = absurd r
-not_accepted number study TooLarge text out same r = absurd r
-not_accepted number study WriteFailed text out same r = absurd r
-not_accepted number study (Written s) text out same r = absurd r
+pub not_accepted : (number : ℕ) (study : Study) (o : Outcome) (out : SinkState) → study ≡ drill_of number → RefusesNetworks study o → Reports (drilled number) out out o
+not_accepted number study NoMemory out same r = inl refl
+not_accepted number study (Refused (refusal.Study f)) out same r = absurd (no_networks_refusal (drill_of number) (has_live number) f (subst (λ (s : Study). IsNetworksRefusal s f) same r.1))
+not_accepted number study (Refused (refusal.Spectrum f)) out same r = absurd r
+not_accepted number study (Refused (refusal.Levels f)) out same r = absurd r
+not_accepted number study WordsRefused out same r = absurd r
+not_accepted number study (ReadFailed f) out same r = absurd r
+not_accepted number study (TooLarge f) out same r = absurd r
+not_accepted number study WriteFailed out same r = absurd r
+not_accepted number study (Written s) out same r = absurd r
 
 -- ---- a report of one scan
 status_is : (study : Study) (scan : ScanItem) → study.scans ≡ scan ∷ [] → counted_status (boxes_in study scan) ≡ report_status study
@@ -109,27 +107,28 @@ text_is_written number nodes scan boxes same one walked =
 -- ---- the walk of a drill
 -- what is known of a drill's study and its scan
 pub record IsDrill (study : Study) (scan : ScanItem) : Type 0 where
-  pub built : IsBuilt study
+  pub study_lawful : IsLawful study
   pub lawful : IsLawfulScan study.version study.model study.buses scan
-  pub live : Live (network_of study scan.network) scan.bus
   pub scale : 40 ≡ study.scale
-  pub positive : Positive ≡ scan.network
 
 pub is_drill : (number : ℕ) (study : Study) (scan : ScanItem) → study ≡ drill_of number → scan ≡ drill_scan → IsDrill study scan
 is_drill number study scan same one =
     subst (λ (s : Study). IsDrill s scan) (sym same) (subst (IsDrill (drill_of number)) (sym one) (record {
-      built = built number;
+      study_lawful = drill_lawful number;
       lawful = scan_is_lawful number;
-      live = scan_is_live number;
       scale = sym (drill_scale number);
-      positive = refl;
     }))
 
-pub network_is : (study : Study) (scan : ScanItem) (networks : Networks) → Positive ≡ scan.network → AreNetworksOf study networks → IsNetworkOf study scan.network networks.positive
-network_is study scan networks positive are = subst (λ (s : Sequence). IsNetworkOf study s networks.positive) positive (are Positive)
+-- it looks at the positive network
+drill_network : (number : ℕ) → scanned_network (drill_of number) drill_scan ≡ network_of (drill_of number) Positive
+unfolding scanned_network drill_of
+drill_network number = refl
 
-pub nodes_are : (number : ℕ) (study : Study) (networks : Networks) → study ≡ drill_of number → AreNetworksOf study networks → networks.positive.nodes ≡ (network_of (drill_of number) Positive).nodes
-nodes_are number study networks same are = ap (λ (n : Network). n.nodes) (are Positive).exact ∙ ap (λ (s : Study). (network_of s Positive).nodes) same
+pub nodes_are : (number : ℕ) (study : Study) (scan : ScanItem) (network : Network) → study ≡ drill_of number → scan ≡ drill_scan → network ≡ scanned_network study scan
+    → network.nodes ≡ (network_of (drill_of number) Positive).nodes
+nodes_are number study scan network same one is =
+    ap (λ (n : Network). n.nodes)
+    (is ∙ ap (λ (s : Study). scanned_network s scan) same ∙ ap (λ (s : ScanItem). scanned_network (drill_of number) s) one ∙ drill_network number)
 
 pub boxes_are : (number : ℕ) (study : Study) (scan : ScanItem) (boxes : List BoxRow) → study ≡ drill_of number → scan ≡ drill_scan → boxes ≡ boxes_in study scan → boxes ≡ boxes_in (drill_of number) drill_scan
 boxes_are number study scan boxes same one walked = walked ∙ ap (λ (s : Study). boxes_in s scan) same ∙ ap (boxes_in (drill_of number)) one
@@ -157,7 +156,7 @@ drill_holds number can =
     (subst (AllByRecursion (CanScan study)) (sym (drill_scans number)) (can, tt))
 
 pub drill_reported : (number status : ℕ) (study : Study) (scan : ScanItem) (boxes : List BoxRow) (text : List ℕ) (out out' : SinkState) → study ≡ drill_of number → scan ≡ drill_scan → CanScan study scan
-    → boxes ≡ boxes_in study scan → status ≡ counted_status boxes → text ≡ drill_text number → out' ≡ took out text → IsReported (drill_of number) (drill_text number) status out out'
+    → boxes ≡ boxes_in study scan → status ≡ counted_status boxes → text ≡ drill_text number → out' ≡ took out text → IsReported (drilled number) status out out'
 drill_reported number status study scan boxes text out out' same one can walked shows is wrote = record {
   status_is = shows ∙ ap counted_status (boxes_are number study scan boxes same one walked) ∙ drill_status number;
   written = wrote ∙ ap (took out) is;
@@ -165,5 +164,5 @@ drill_reported number status study scan boxes text out out' same one can walked 
 }
 
 pub drill_not_taken : (number : ℕ) (text : List ℕ) (out out' : SinkState) (fault : PutFault) (o : Outcome) → text ≡ drill_text number → Writes {A = ℕ} text out out' (Err fault) → o ≡ outcome_of_put fault
-    → Reports (drill_of number) (drill_text number) out out' o
-drill_not_taken number text out out' fault o is w e = not_taken (drill_of number) (drill_text number) out out' fault o (subst (λ (t : List ℕ). Writes {A = ℕ} t out out' (Err fault)) is w) e
+    → Reports (drilled number) out out' o
+drill_not_taken number text out out' fault o is w e = not_taken ℕ (drilled number) out out' fault o (subst (λ (t : List ℕ). Writes {A = ℕ} t out out' (Err fault)) is w) e

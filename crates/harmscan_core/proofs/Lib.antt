@@ -1,8 +1,11 @@
 pub mod WordCounts
 pub mod NumberWords
 pub mod Rows
-pub mod Causes
+pub mod Chains
 pub mod Accepted
+pub mod Spectra
+pub mod Subjects
+pub mod Causes
 pub mod Complete
 pub mod BoxCount
 pub mod NodeOrderings
@@ -12,3 +15,4 @@ pub mod Written
 pub mod Plans
 pub mod Folds
 pub mod Drills
+pub mod Distorted

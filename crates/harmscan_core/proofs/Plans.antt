@@ -14,20 +14,12 @@ use Rattle.study_model.specs.declared.records.Study.{Study}
 use Rattle.harmscan_core.specs.Scan.{boxes_in}
 use Rattle.harmscan_core.specs.Fold.{most_boxes, tallied, no_tally, found_too, found_in, nothing_found, found_over}
 use Rattle.harmscan_core.specs.Texts.{scan_text, scans_text}
-use Rattle.sequence_network.specs.Built.{IsNetworkOf}
-use Rattle.sequence_network.specs.declared.live.Networks.{Networks}
-use Rattle.study_model.specs.declared.words.Sequence.TheVariants.{Positive, Zero}
-use Rattle.harmscan_core.specs.Plan.{CanScan, IsPlanned, IsPlan, AreNetworksOf}
+use Rattle.harmscan_core.specs.Plan.{CanScan, IsPlanned, IsPlan}
 use Rattle.harmscan_core.specs.declared.counts.Counts.{Counts}
 use Rattle.harmscan_core.specs.declared.counts.Found.{Found}
 use Rattle.harmscan_core.specs.declared.plan.PlannedScan.{PlannedScan}
 use Rattle.harmscan_core.proofs.StudyFacts.{scan_texts, scan_few}
 use Rattle.harmscan_core.proofs.Folds.{found_is}
-
--- both networks of a study
-pub both_networks : (study : Study) (networks : Networks) → IsNetworkOf study Positive networks.positive → IsNetworkOf study Zero networks.zero → AreNetworksOf study networks
-both_networks study networks p z Positive = p
-both_networks study networks p z Zero = z
 
 abbrev pub scans_of : {E : Type 0} → List (PlannedScan E) → List ScanItem
 scans_of plan = map (λ planned. planned.scan) plan

@@ -6,7 +6,8 @@ use Rattle.harm_io.specs.declared.sink.PutFault.{PutFault}
 use Rattle.harm_io.specs.declared.sink.PutFault.TheVariants.{Failed, NoMemory}
 use Rattle.study_model.specs.Lawful.{IsLawful, IsLawfulScan}
 use Rattle.study_model.specs.declared.records.Study.{Study}
-use Rattle.harmscan_core.specs.Report.{report_status, report_text}
+use Rattle.harmscan_core.specs.Report.{report_status}
+use Rattle.harmscan_core.specs.Subject.{Subject, scanned, text_for}
 use Rattle.harmscan_core.specs.Texts.{whole_text}
 use Rattle.harmscan_core.specs.Outcome.{IsReported, Reports, outcome_of_put}
 use Rattle.harmscan_core.specs.declared.outcome.Outcome.{Outcome}
@@ -17,7 +18,7 @@ use Rattle.harmscan_core.proofs.Plans.{plan_can}
 use Rattle.harmscan_core.proofs.WholeReport.{whole_report}
 
 pub is_reported : {E : Type 0} (study : Study) (plan : List (PlannedScan E)) (status : ℕ) (out out' : SinkState) → IsLawful study → IsPlan study plan → status ≡ report_status study
-    → out' ≡ took out (whole_text study (report_status study)) → IsReported study (report_text study) status out out'
+    → out' ≡ took out (whole_text study (report_status study)) → IsReported (scanned study) status out out'
 is_reported study plan status out out' lawful is shows wrote = record {
   status_is = shows;
   written = wrote ∙ ap (took out) (whole_report study);
@@ -25,10 +26,10 @@ is_reported study plan status out out' lawful is shows wrote = record {
 }
 
 -- a report that wasn't taken whole
-pub not_taken : (study : Study) (text : List ℕ) (out out' : SinkState) (fault : PutFault) (o : Outcome) → Writes {A = ℕ} text out out' (Err fault) → o ≡ outcome_of_put fault → Reports study text out out' o
-not_taken study text out out' Failed o h e = subst (Reports study text out out') (sym e) h
-not_taken study text out out' NoMemory o h e = subst (Reports study text out out') (sym e) (inr h)
+pub not_taken : (A : Type 0) (subject : Subject) (out out' : SinkState) (fault : PutFault) (o : Outcome) → Writes {A = A} (text_for subject) out out' (Err fault) → o ≡ outcome_of_put fault → Reports subject out out' o
+not_taken A subject out out' Failed o h e = subst (Reports subject out out') (sym e) h
+not_taken A subject out out' NoMemory o h e = subst (Reports subject out out') (sym e) (inr h)
 
 pub not_reported : (study : Study) (out out' : SinkState) (fault : PutFault) (o : Outcome) → Writes {A = ℕ} (whole_text study (report_status study)) out out' (Err fault) → o ≡ outcome_of_put fault
-    → Reports study (report_text study) out out' o
-not_reported study out out' fault o h e = not_taken study (report_text study) out out' fault o (subst (λ (t : List ℕ). Writes {A = ℕ} t out out' (Err fault)) (whole_report study) h) e
+    → Reports (scanned study) out out' o
+not_reported study out out' fault o h e = not_taken ℕ (scanned study) out out' fault o (subst (λ (t : List ℕ). Writes {A = ℕ} t out out' (Err fault)) (whole_report study) h) e

@@ -9,4 +9,7 @@ pub mod Claim
 pub mod Accepted
 pub mod Words
 pub mod Lines
+pub mod Files
+pub mod Subject
+pub mod Inputs
 pub mod Outcome

@@ -5,8 +5,19 @@ use Rattle.study_model.specs.Words.{section_text, key_text}
 use Rattle.study_model.specs.declared.fault.Place.{Place}
 use Rattle.study_model.specs.declared.fault.StudyFault.{StudyFault}
 use Rattle.study_model.specs.Faults.{fault_number, fault_name, fault_place}
+use Rattle.spectrum_reader.specs.Faults.{PrintedFault, spectrum_printed, levels_printed}
+use Rattle.harmscan_core.specs.declared.files.File.{File}
+use Rattle.harmscan_core.specs.declared.files.File.TheVariants as file
+use Rattle.harmscan_core.specs.declared.files.Refusal.{Refusal}
+use Rattle.harmscan_core.specs.declared.files.Refusal.TheVariants as refusal
 use Rattle.harmscan_core.specs.declared.outcome.Outcome.{Outcome}
 use Rattle.harmscan_core.specs.declared.outcome.Outcome.TheVariants as outcome
+
+-- the word of a file
+abbrev pub file_text : File → List ℕ
+file_text file.Study = codes "study"
+file_text file.Spectrum = codes "spectrum"
+file_text file.Levels = codes "levels"
 
 -- a place, with a blank before each of its three words
 abbrev pub place_text : Option Place → List ℕ
@@ -18,16 +29,31 @@ abbrev pub number_text : Option ℕ → List ℕ
 number_text None = []
 number_text (Some number) = decimal number
 
--- a refusal: its number, its name and its place
+-- the refusal of a study: its number, its name and its place
 unfoldable pub refusal_text : StudyFault → List ℕ
 refusal_text fault = number_text (fault_number fault) ++ codes " " ++ fault_name fault ++ place_text (fault_place fault)
+
+-- the number of a row after a blank, where there is one
+abbrev pub row_number_text : Option ℕ → List ℕ
+row_number_text None = []
+row_number_text (Some row) = codes " " ++ decimal row
+
+-- the refusal of another file: its number, its name and its row
+unfoldable pub printed_text : PrintedFault → List ℕ
+printed_text fault = number_text fault.number ++ codes " " ++ fault.name ++ row_number_text fault.row
+
+-- what a refusal's line says of it
+abbrev pub refused_text : Refusal → List ℕ
+refused_text (refusal.Study fault) = codes "study refused: " ++ refusal_text fault
+refused_text (refusal.Spectrum fault) = codes "spectrum refused: " ++ printed_text (spectrum_printed fault)
+refused_text (refusal.Levels fault) = codes "levels refused: " ++ printed_text (levels_printed fault)
 
 -- the line for an outcome, or none
 abbrev pub line_at : Outcome → Option (List ℕ)
 line_at outcome.WordsRefused = Some (codes "harmscan: words refused" ++ 10 ∷ [])
-line_at outcome.ReadFailed = Some (codes "harmscan: cannot read study" ++ 10 ∷ [])
-line_at outcome.TooLarge = Some (codes "harmscan: study too large" ++ 10 ∷ [])
-line_at (outcome.Refused fault) = Some (codes "harmscan: study refused: " ++ refusal_text fault ++ 10 ∷ [])
+line_at (outcome.ReadFailed file) = Some (codes "harmscan: cannot read " ++ file_text file ++ 10 ∷ [])
+line_at (outcome.TooLarge file) = Some (codes "harmscan: " ++ file_text file ++ codes " too large" ++ 10 ∷ [])
+line_at (outcome.Refused refusal) = Some (codes "harmscan: " ++ refused_text refusal ++ 10 ∷ [])
 line_at outcome.WriteFailed = Some (codes "harmscan: cannot write report" ++ 10 ∷ [])
 line_at outcome.NoMemory = Some (codes "harmscan: out of memory" ++ 10 ∷ [])
 line_at (outcome.Written status) = None

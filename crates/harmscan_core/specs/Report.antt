@@ -10,6 +10,8 @@ use Rattle.scan_report.specs.declared.rows.Row.TheVariants as row
 use Rattle.scan_report.specs.declared.rows.BoxWord.TheVariants as word
 use Rattle.scan_report.specs.declared.rows.NetWord.{NetWord}
 use Rattle.scan_report.specs.declared.rows.NetWord.TheVariants as net
+use Rattle.study_model.specs.declared.words.Phase.{Phase}
+use Rattle.study_model.specs.declared.words.Phase.TheVariants as phase
 use Rattle.study_model.specs.declared.words.Sequence.{Sequence}
 use Rattle.study_model.specs.declared.words.Sequence.TheVariants as sequence
 use Rattle.study_model.specs.declared.records.Bus.{Bus}
@@ -47,13 +49,17 @@ name_in None = []
 abbrev pub bus_name : List Bus → ℕ → List ℕ
 bus_name buses number = name_in (slice_get buses number)
 
-abbrev pub net_of : Sequence → NetWord
-net_of sequence.Positive = net.Positive
-net_of sequence.Zero = net.Zero
+-- the word of what a scan looks at: its phase, or the sequence of its network
+abbrev pub net_of : Sequence → Option Phase → NetWord
+net_of sequence.Positive None = net.Positive
+net_of sequence.Zero None = net.Zero
+net_of network (Some phase.A) = net.A
+net_of network (Some phase.B) = net.B
+net_of network (Some phase.C) = net.C
 
 -- a scan's first row
 abbrev pub head_row : Study → ScanItem → Row
-head_row study scan = row.Scan scan.name (bus_name study.buses scan.bus) (net_of scan.network) (unsigned_abs scan.from) (unsigned_abs scan.to) scan.threshold study.method
+head_row study scan = row.Scan scan.name (bus_name study.buses scan.bus) (net_of scan.network scan.phase) (unsigned_abs scan.from) (unsigned_abs scan.to) scan.threshold study.method
 
 -- a scan's last row: its boxes, of each kind, and its regions
 abbrev pub summary_of : ScanItem → List BoxRow → Row

@@ -1,12 +1,13 @@
 -- The boxes of a scan.
-use Rattle.std.specs.Prelude.{ℕ, unsigned_abs, List}
+use Rattle.std.specs.Prelude.{ℕ, unsigned_abs, if◌then◌else◌, List}
 use Rattle.network_theory.specs.Network.{Network}
 use Rattle.network_theory.specs.Reach.{is_live}
 use Rattle.admittance_box.specs.Places.{node_ordering}
 use Rattle.study_model.specs.Voltages.{kv_of}
-use Rattle.sequence_network.specs.Networks.{network_of}
+use Rattle.study_networks.specs.Scanned.{scanned_network, scanned_node}
 use Rattle.band_subdivision.specs.Boxes.{BoxTest, boxes_of}
 use Rattle.band_subdivision.specs.PairTest.{pair_test}
+use Rattle.band_subdivision.specs.Parts.{nowhere}
 use Rattle.band_subdivision.specs.ScanSpec.{asked_of, widths_of, nothing}
 use Rattle.band_subdivision.specs.declared.scan_spec.ScanSpec.{ScanSpec}
 use Rattle.scan_report.specs.declared.boxes.BoxRow.{BoxRow}
@@ -34,9 +35,13 @@ ordering_of network driven = node_ordering network (is_live network) driven
 abbrev pub network_test : ℕ → ScanSpec → Network → ℕ → BoxTest
 network_test scale spec network driven = pair_test scale (asked_of spec) network network (ordering_of network driven) nothing
 
--- the test of the boxes of a scan
+-- the test of the boxes of a scan at a node of a network: where the node isn't live it passes nowhere
+abbrev pub test_at : Study → ScanItem → Network → ℕ → BoxTest
+test_at study scan network node = if is_live network node then network_test study.scale (spec_of study scan) network node else nowhere
+
+-- and at the node that it looks at
 unfoldable pub test_of : Study → ScanItem → BoxTest
-test_of study scan = network_test study.scale (spec_of study scan) (network_of study scan.network) scan.bus
+test_of study scan = test_at study scan (scanned_network study scan) (scanned_node scan)
 
 -- the boxes of a scan
 unfoldable pub boxes_in : Study → ScanItem → List BoxRow

@@ -6,8 +6,8 @@ ghost use Rattle.harm_io.specs.Sinks.{Writes};
 ghost use Rattle.drill_study.specs.Drill.{drill_of};
 ghost use Rattle.harmscan_core.specs.Fold.{most_boxes, tallied, no_tally, counted_status};
 ghost use Rattle.harmscan_core.specs.Outcome.{Reports};
-ghost use Rattle.harmscan_core.specs.Plan.{AreNetworksOf};
-ghost use Rattle.harmscan_core.specs.Report.{drill_text};
+ghost use Rattle.study_networks.specs.Networks.{AreNetworksOf};
+ghost use Rattle.harmscan_core.specs.Subject.{drilled};
 ghost use Rattle.harmscan_core.specs.Texts.{drill_head_text, counts_text, counted_text};
 
 use crate::counts::{Found, Tally, tally_more};
@@ -19,9 +19,9 @@ use complex_interval::{Enclosure, Span};
 use drill_study::drill_scan;
 use harm_io::{PutFault, Sink};
 use scan_report::{LineBuf, Row, drill_row};
-use sequence_network::Networks;
 use std::alloc::Global;
 use study_model::{ScanItem, Study};
+use study_networks::{StudyNetworks, scanned_network};
 
 /// Counts all boxes of a walk.
 fn tally_of<E: Enclosure>(walk: &mut Scan<E>) -> Tally
@@ -97,17 +97,18 @@ pub fn report_drill<O: Sink>(
     alloc: Global,
     number: u32,
     study: &Study,
-    networks: &Networks,
+    networks: &StudyNetworks,
     out: &mut O,
 ) -> Outcome
     requires study { study.now ≡ drill_of number }
     requires networks { AreNetworksOf study.now networks.now }
-    ensures { Reports (drill_of number) (drill_text number) (O.state out.old) (O.state out.new) result }
+    ensures { Reports (drilled number) (O.state out.old) (O.state out.new) result }
 {
     let scan = drill_scan();
-    match walk_of::<Span<40>>(alloc, study, &scan, &networks.positive) {
+    let nodes = scanned_network(study, networks, &scan).nodes;
+    match walk_of::<Span<40>>(alloc, study, networks, &scan) {
         Err(_) => Outcome::NoMemory,
-        Ok(mut walk) => match put_drill(number, networks.positive.nodes, &scan, &mut walk, out) {
+        Ok(mut walk) => match put_drill(number, nodes, &scan, &mut walk, out) {
             Ok(status) => Outcome::Written(status),
             Err(fault) => after_put(fault),
         },

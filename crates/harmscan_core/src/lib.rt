@@ -2,7 +2,10 @@
 #![tactic(auto)]
 
 mod counts;
+mod distortion;
 mod drill;
+mod files;
+mod inputs;
 mod limits;
 mod lines;
 mod outcome;
@@ -13,6 +16,7 @@ mod report;
 mod scan;
 mod words;
 
+pub use files::{File, Refusal};
 pub use limits::LONGEST_FILE;
 pub use outcome::Outcome;
 pub use perform::{run, run_collected};

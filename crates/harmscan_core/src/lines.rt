@@ -1,11 +1,14 @@
 // The lines on standard error. Each is put once, and a failure there changes no status, since the status is the answer.
 ghost use Rattle.std.specs.Prelude.{◌≡◌, ◌+◌, ◌≤◌, ◌++◌, length, Some, None, if◌then◌else◌};
-ghost use Rattle.harmscan_core.specs.Lines.{line_at, place_text, number_text, refusal_text};
+ghost use Rattle.spectrum_reader.specs.Faults.{spectrum_printed, levels_printed};
+ghost use Rattle.harmscan_core.specs.Lines.{line_at, place_text, number_text, refusal_text, row_number_text, printed_text, refused_text};
 ghost use Rattle.harmscan_core.specs.Outcome.{Says};
 
+use crate::files::Refusal;
 use crate::outcome::Outcome;
 use harm_io::Sink;
 use scan_report::{LineBuf, push_number};
+use spectrum_reader::{LevelsFault, SpectrumFault};
 use study_model::{Place, StudyFault};
 
 fn push_place(line: &mut LineBuf, place: Option<Place>)
@@ -33,9 +36,9 @@ fn push_fault_number(line: &mut LineBuf, number: Option<u32>)
     }
 }
 
-/// A refusal: its number, its name and its place.
+/// The refusal of a study: its number, its name and its place.
 #[tactic(auto, unfolding(crate::specs::Lines::refusal_text))]
-fn push_refusal(line: &mut LineBuf, fault: &StudyFault)
+fn push_study_refusal(line: &mut LineBuf, fault: &StudyFault)
     requires { length line.old + 62 ≤ 256 }
     ensures text { line.new ≡ line.old ++ refusal_text fault.now }
     ensures len { length line.new ≤ length line.old + 62 }
@@ -46,6 +49,65 @@ fn push_refusal(line: &mut LineBuf, fault: &StudyFault)
     push_place(line, fault.place());
 }
 
+fn push_row_number(line: &mut LineBuf, row: Option<u32>)
+    requires { length line.old + 11 ≤ 256 }
+    ensures text { line.new ≡ line.old ++ row_number_text row }
+    ensures len { length line.new ≤ length line.old + 11 }
+{
+    if let Some(row) = row {
+        line.push(b' ');
+        push_number(line, row);
+    }
+}
+
+/// The refusal of a spectrum: its number, its name and its row.
+#[tactic(auto, unfolding(crate::specs::Lines::printed_text))]
+fn push_spectrum_refusal(line: &mut LineBuf, fault: SpectrumFault)
+    requires { length line.old + 32 ≤ 256 }
+    ensures text { line.new ≡ line.old ++ printed_text (spectrum_printed fault) }
+    ensures len { length line.new ≤ length line.old + 32 }
+{
+    push_fault_number(line, fault.number());
+    line.push(b' ');
+    line.push_text(fault.name().as_bytes());
+    push_row_number(line, fault.row());
+}
+
+/// The refusal of planning levels: its number, its name and its row.
+#[tactic(auto, unfolding(crate::specs::Lines::printed_text))]
+fn push_levels_refusal(line: &mut LineBuf, fault: LevelsFault)
+    requires { length line.old + 32 ≤ 256 }
+    ensures text { line.new ≡ line.old ++ printed_text (levels_printed fault) }
+    ensures len { length line.new ≤ length line.old + 32 }
+{
+    push_fault_number(line, fault.number());
+    line.push(b' ');
+    line.push_text(fault.name().as_bytes());
+    push_row_number(line, fault.row());
+}
+
+/// Which file is refused, and why.
+fn push_refusal(line: &mut LineBuf, refusal: &Refusal)
+    requires { length line.old + 80 ≤ 256 }
+    ensures text { line.new ≡ line.old ++ refused_text refusal.now }
+    ensures len { length line.new ≤ length line.old + 80 }
+{
+    match refusal {
+        Refusal::Study(fault) => {
+            line.push_text(b"study refused: ");
+            push_study_refusal(line, fault);
+        }
+        Refusal::Spectrum(fault) => {
+            line.push_text(b"spectrum refused: ");
+            push_spectrum_refusal(line, *fault);
+        }
+        Refusal::Levels(fault) => {
+            line.push_text(b"levels refused: ");
+            push_levels_refusal(line, *fault);
+        }
+    }
+}
+
 /// Sets the line to that of an outcome, where it has one.
 fn set_line(outcome: &Outcome, line: &mut LineBuf) -> bool
     ensures { (if result then Some line.new else None) ≡ line_at outcome.now }
@@ -53,11 +115,18 @@ fn set_line(outcome: &Outcome, line: &mut LineBuf) -> bool
     line.clear();
     match outcome {
         Outcome::WordsRefused => line.push_text(b"harmscan: words refused"),
-        Outcome::ReadFailed => line.push_text(b"harmscan: cannot read study"),
-        Outcome::TooLarge => line.push_text(b"harmscan: study too large"),
-        Outcome::Refused(fault) => {
-            line.push_text(b"harmscan: study refused: ");
-            push_refusal(line, fault);
+        Outcome::ReadFailed(file) => {
+            line.push_text(b"harmscan: cannot read ");
+            line.push_text(file.text().as_bytes());
+        }
+        Outcome::TooLarge(file) => {
+            line.push_text(b"harmscan: ");
+            line.push_text(file.text().as_bytes());
+            line.push_text(b" too large");
+        }
+        Outcome::Refused(refusal) => {
+            line.push_text(b"harmscan: ");
+            push_refusal(line, refusal);
         }
         Outcome::WriteFailed => line.push_text(b"harmscan: cannot write report"),
         Outcome::NoMemory => line.push_text(b"harmscan: out of memory"),

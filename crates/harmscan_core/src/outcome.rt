@@ -3,7 +3,9 @@ ghost use Rattle.std.specs.Prelude.{◌≡◌, ◌≢◌};
 ghost use Rattle.std.specs.IoError.{error_kind};
 ghost use Rattle.harmscan_core.specs.Outcome.{status_at, outcome_of_fetch, outcome_of_put, EndsAt};
 
+use crate::files::{File, Refusal};
 use harm_io::{FetchFault, PutFault};
+use spectrum_reader::{LevelsFault, SpectrumFault};
 use std::io;
 use std::io::ErrorKind;
 use study_model::StudyFault;
@@ -13,12 +15,12 @@ use study_model::StudyFault;
 pub enum Outcome {
     /// The words have no reading.
     WordsRefused,
-    /// The study can't be read.
-    ReadFailed,
-    /// The study is larger than a file may be.
-    TooLarge,
-    /// The study is refused.
-    Refused(StudyFault),
+    /// The file can't be read.
+    ReadFailed(File),
+    /// The file is larger than a file may be.
+    TooLarge(File),
+    /// A file is refused.
+    Refused(Refusal),
     /// The report can't be written.
     WriteFailed,
     /// Memory is wanting.
@@ -33,8 +35,8 @@ pub fn status(outcome: &Outcome) -> u8
 {
     match outcome {
         Outcome::WordsRefused => 1,
-        Outcome::ReadFailed => 5,
-        Outcome::TooLarge => 2,
+        Outcome::ReadFailed(_) => 5,
+        Outcome::TooLarge(_) => 2,
         Outcome::Refused(_) => 2,
         Outcome::WriteFailed => 6,
         Outcome::NoMemory => 7,
@@ -42,24 +44,44 @@ pub fn status(outcome: &Outcome) -> u8
     }
 }
 
-/// How a run ends at a fetch that gave no file.
-pub fn after_fetch(fault: FetchFault) -> Outcome
-    ensures { result ≡ outcome_of_fetch fault }
+/// How a run ends at a fetch that didn't give this file.
+pub fn after_fetch(file: File, fault: FetchFault) -> Outcome
+    ensures { result ≡ outcome_of_fetch file fault }
 {
     match fault {
-        FetchFault::Failed => Outcome::ReadFailed,
-        FetchFault::TooLarge(_) => Outcome::TooLarge,
+        FetchFault::Failed => Outcome::ReadFailed(file),
+        FetchFault::TooLarge(_) => Outcome::TooLarge(file),
         FetchFault::NoMemory => Outcome::NoMemory,
     }
 }
 
 /// How a run ends at the fault of a study or of its networks.
 pub fn after_fault(fault: StudyFault) -> Outcome
-    ensures { EndsAt fault result }
+    ensures { EndsAt StudyFault.NoMemory Refusal.Study fault result }
 {
     match fault {
         StudyFault::NoMemory => Outcome::NoMemory,
-        refusal => Outcome::Refused(refusal),
+        refusal => Outcome::Refused(Refusal::Study(refusal)),
+    }
+}
+
+/// How a run ends at the fault of a spectrum.
+pub fn after_spectrum_fault(fault: SpectrumFault) -> Outcome
+    ensures { EndsAt SpectrumFault.NoMemory Refusal.Spectrum fault result }
+{
+    match fault {
+        SpectrumFault::NoMemory => Outcome::NoMemory,
+        refusal => Outcome::Refused(Refusal::Spectrum(refusal)),
+    }
+}
+
+/// How a run ends at the fault of planning levels.
+pub fn after_levels_fault(fault: LevelsFault) -> Outcome
+    ensures { EndsAt LevelsFault.NoMemory Refusal.Levels fault result }
+{
+    match fault {
+        LevelsFault::NoMemory => Outcome::NoMemory,
+        refusal => Outcome::Refused(Refusal::Levels(refusal)),
     }
 }
 

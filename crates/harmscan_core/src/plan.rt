@@ -1,8 +1,8 @@
 // The scans of a study with their walks. All are made before the first put, so a walk can't meet want of memory.
 use band_subdivision::Scan;
 use complex_interval::Enclosure;
-use sequence_network::Networks;
 use study_model::{ScanItem, Study};
+use study_networks::StudyNetworks;
 
 /// A scan, and the walk over its band.
 #[derive(Drop)]
@@ -15,5 +15,5 @@ pub struct PlannedScan<E: Enclosure> {
 #[derive(Drop)]
 pub struct AcceptedStudy {
     pub study: Study,
-    pub networks: Networks,
+    pub networks: StudyNetworks,
 }

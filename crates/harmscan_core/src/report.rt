@@ -4,8 +4,7 @@ ghost use Rattle.std.specs.List.{AllByRecursion};
 ghost use Rattle.band_subdivision.specs.BoxText.{HasText};
 ghost use Rattle.harm_io.specs.Sinks.{Writes};
 ghost use Rattle.scan_report.specs.Rows.{row_text};
-ghost use Rattle.study_model.specs.Lawful.{IsLawfulScan};
-ghost use Rattle.study_reader.specs.Built.{IsBuilt};
+ghost use Rattle.study_model.specs.Lawful.{IsLawful, IsLawfulScan};
 ghost use Rattle.harmscan_core.specs.Scan.{boxes_in};
 ghost use Rattle.harmscan_core.specs.Texts.{head_text, open_text, ended_text, step_text, boxes_text, summary_text, end_text, body_text, scan_text, scans_text, whole_text};
 ghost use Rattle.harmscan_core.specs.Plan.{IsPlan};
@@ -30,7 +29,7 @@ use scan_report::{
     summary_row,
 };
 use std::collections::VecDeque;
-use study_model::{ScanItem, Sequence, Study};
+use study_model::{Phase, ScanItem, Sequence, Study};
 
 /// Puts a line.
 #[tactic(auto, using(harm_io::proofs::Writing::writes_put))]
@@ -257,12 +256,17 @@ pub fn put_end<O: Sink>(status: u8, line: &mut LineBuf, out: &mut O) -> Result<u
     }
 }
 
-fn net_word(network: Sequence) -> NetWord
-    ensures { result ≡ net_of network }
+fn net_word(network: Sequence, phase: Option<Phase>) -> NetWord
+    ensures { result ≡ net_of network phase }
 {
-    match network {
-        Sequence::Positive => NetWord::Positive,
-        Sequence::Zero => NetWord::Zero,
+    match phase {
+        Some(Phase::A) => NetWord::A,
+        Some(Phase::B) => NetWord::B,
+        Some(Phase::C) => NetWord::C,
+        None => match network {
+            Sequence::Positive => NetWord::Positive,
+            Sequence::Zero => NetWord::Zero,
+        },
     }
 }
 
@@ -280,7 +284,7 @@ fn put_head<O: Sink>(
     let row = Row::Scan {
         name: scan.name,
         bus: study.buses.as_slice()[scan.bus as usize].name,
-        network: net_word(scan.network),
+        network: net_word(scan.network, scan.phase),
         from: micro(scan.from),
         to: micro(scan.to),
         threshold: scan.threshold,
@@ -341,7 +345,7 @@ fn put_scans<E: Enclosure, O: Sink>(
     line: &mut LineBuf,
     out: &mut O,
 ) -> Result<Found, PutFault>
-    requires study { IsBuilt study.now }
+    requires study { IsLawful study.now }
     requires plan { IsPlan study.now plan.old.items }
     ensures wrote { Writes (scans_text study.now study.now.scans) (O.state out.old) (O.state out.new) result }
     ensures found { IfOk result (λ f. f ≡ found_over study.now) }
@@ -364,7 +368,7 @@ pub fn put_report<E: Enclosure, O: Sink>(
     plan: &mut VecDeque<PlannedScan<E>>,
     out: &mut O,
 ) -> Result<u8, PutFault>
-    requires study { IsBuilt study.now }
+    requires study { IsLawful study.now }
     requires plan { IsPlan study.now plan.old.items }
     ensures wrote { Writes (whole_text study.now (report_status study.now)) (O.state out.old) (O.state out.new) result }
     ensures status { IfOk result (λ s. s ≡ report_status study.now) }

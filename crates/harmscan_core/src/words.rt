@@ -1,15 +1,17 @@
 // What the words of the command line ask for. They are read by hand, since a reading takes no memory.
-ghost use Rattle.std.specs.Prelude.{◌≡◌, option_map};
+ghost use Rattle.std.specs.Prelude.{◌≡◌, [], ◌∷◌, option_map, Some};
 ghost use Rattle.std.specs.Char.{is_ascii_digit};
 ghost use Rattle.std.specs.List.{list_all};
 ghost use Rattle.harm_io.specs.Memory.{names_of};
-ghost use Rattle.harmscan_core.specs.Words.{is_file_word, has_no_leading_zero, is_number_word, number_in, reading, reading_of, seen};
+ghost use Rattle.harmscan_core.specs.Words.{is_file_word, has_no_leading_zero, is_number_word, number_in, reading, reading_of, limits_reading, limits, seen};
 
 /// What the words ask for.
 #[derive(Clone, Copy)]
 pub enum Command<'a> {
     /// The scan of the study in the file of this name.
     Scan(&'a str),
+    /// The distortion of the spectrum in the study, by the names of their files, and the name of the file of planning levels.
+    Limits(&'a str, &'a str, Option<&'a str>),
     /// The drill of this number.
     Drill(u32),
 }
@@ -76,6 +78,37 @@ fn reading_of<'a>(first: &str, word: &'a str) -> Option<Command<'a>>
     }
 }
 
+/// What `limits` with a study and a spectrum asks for.
+fn limits_of_two<'a>(first: &str, study: &'a str, spectrum: &'a str) -> Option<Command<'a>>
+    ensures { option_map seen result ≡ limits_reading first.now (study.now ∷ spectrum.now ∷ []) (Some (limits study.now spectrum.now None)) }
+{
+    if first == "limits" && is_file_word(study.as_bytes()) && is_file_word(spectrum.as_bytes()) {
+        Some(Command::Limits(study, spectrum, None))
+    } else {
+        None
+    }
+}
+
+/// And with planning levels.
+fn limits_of_three<'a>(
+    first: &str,
+    study: &'a str,
+    spectrum: &'a str,
+    levels: &'a str,
+) -> Option<Command<'a>>
+    ensures { option_map seen result ≡ limits_reading first.now (study.now ∷ spectrum.now ∷ levels.now ∷ []) (Some (limits study.now spectrum.now (Some levels.now))) }
+{
+    if first == "limits"
+        && is_file_word(study.as_bytes())
+        && is_file_word(spectrum.as_bytes())
+        && is_file_word(levels.as_bytes())
+    {
+        Some(Command::Limits(study, spectrum, Some(levels)))
+    } else {
+        None
+    }
+}
+
 /// What the words ask for, where they have a reading.
 #[tactic(auto, using(crate::proofs::WordCounts::reading_few, crate::proofs::WordCounts::reading_more))]
 pub fn reading<'a>(words: &'a [String]) -> Option<Command<'a>>
@@ -83,8 +116,17 @@ pub fn reading<'a>(words: &'a [String]) -> Option<Command<'a>>
 {
     match words {
         [first, word] => reading_of(first.as_str(), word.as_str()),
+        [first, study, spectrum] => {
+            limits_of_two(first.as_str(), study.as_str(), spectrum.as_str())
+        }
+        [first, study, spectrum, levels] => limits_of_three(
+            first.as_str(),
+            study.as_str(),
+            spectrum.as_str(),
+            levels.as_str(),
+        ),
         [] => None,
         [_] => None,
-        [_, _, _, ..] => None,
+        [_, _, _, _, _, ..] => None,
     }
 }

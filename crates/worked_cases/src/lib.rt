@@ -21,6 +21,8 @@ mod in_memory;
 #[cfg(test)]
 mod networks;
 #[cfg(test)]
+mod phases;
+#[cfg(test)]
 mod puts;
 #[cfg(test)]
 mod readings;

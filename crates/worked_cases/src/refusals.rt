@@ -677,20 +677,25 @@ pub const PHASE_LISTS: [(&str, &str); 11] = [
     ),
     (
         "bank = [{ name = \"K1\", bus = \"B1\", q = 1, phase = \"c\", grounded = true }]",
-        "17 NotBuilt study 1 model",
+        "15 Floating bus 2 -",
     ),
-    ("source = []", "17 NotBuilt study 1 model"),
+    ("source = []", "15 Floating bus 1 -"),
 ];
 
-/// Lawful studies of forms that aren't built, beside three buses and a source at the first one.
-pub const OTHER_FORMS: [(&str, &str); 2] = [
+/// Studies of the phases model whose networks are refused: a bus that nothing ties to ground in the positive network, before any that only the
+/// zero network leaves in the air.
+pub const FLOATING_PHASES: [(&str, &str); 3] = [
     (
-        "study = { version = 1, mva = 100, model = \"phases\" }\nline = [{ name = \"L1\", from = \"B1\", to = \"B2\", r = 0, x = 1, r0 = 0, x0 = 1 }]",
-        "17 NotBuilt study 1 model",
+        "bus = [{ name = \"B1\", kv = 10 }]\nsource = [{ name = \"S1\", bus = \"B1\", r = 0, x = 1 }]",
+        "16 PhaseFloating bus 1 -",
     ),
     (
-        "study = { version = 1, mva = 100, model = \"phases\" }\nfilter = [{ name = \"F1\", bus = \"B1\", kind = \"single\", q = 4, order = 5, quality = 50 }]",
-        "17 NotBuilt study 1 model",
+        "bus = [{ name = \"B1\", kv = 10 }, { name = \"B2\", kv = 10 }]\nsource = [{ name = \"S1\", bus = \"B1\", r = 0, x = 1 }]",
+        "15 Floating bus 2 -",
+    ),
+    (
+        "bus = [{ name = \"B1\", kv = 10 }, { name = \"B2\", kv = 1 }]\nsource = [{ name = \"S1\", bus = \"B1\", r = 0, x = 1, r0 = 0, x0 = 1 }]\ntransformer = [{ name = \"T1\", from = \"B1\", to = \"B2\", mva = 1, r = 0, x = 4, from_conn = \"grounded\", to_conn = \"delta\" }]",
+        "16 PhaseFloating bus 2 -",
     ),
 ];
 

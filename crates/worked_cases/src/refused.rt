@@ -124,14 +124,15 @@ fn refused_phase_networks(rt: HostRuntime) -> Result<(), Fail> {
 }
 
 #[test]
-fn forms_that_are_not_built(rt: HostRuntime) -> Result<(), Fail> {
-    let pieces = [refusals::BUSES, refusals::SOURCE];
-    assert_behind(&rt, rt.alloc(), &pieces, &refusals::OTHER_FORMS)
-}
-
-#[test]
 fn networks_that_hang_in_the_air(rt: HostRuntime) -> Result<(), Fail> {
-    assert_each(&rt, rt.alloc(), refusals::STUDY, &refusals::FLOATING, "")
+    assert_each(&rt, rt.alloc(), refusals::STUDY, &refusals::FLOATING, "")?;
+    assert_each(
+        &rt,
+        rt.alloc(),
+        refusals::PHASES,
+        &refusals::FLOATING_PHASES,
+        "",
+    )
 }
 
 /// A section of so many empty entries.

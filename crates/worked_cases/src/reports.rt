@@ -2,7 +2,7 @@
 use crate::answers::{
     Answer, SCAN, assert_answer, assert_long_report, assert_reports, joined, shelf_with,
 };
-use crate::{branchwise, curves, networks, studies};
+use crate::{branchwise, curves, networks, phases, studies};
 use harm_io::SteadyShelf;
 use std::test::Fail;
 
@@ -67,6 +67,16 @@ fn reports_of_lines_transformers_and_filters(rt: HostRuntime) -> Result<(), Fail
         (networks::EVERY_ELEMENT, networks::EVERY_ELEMENT_REPORT, 3),
         (networks::FULL, studies::NO_SCAN_REPORT, 0),
         (studies::TWO_RESONANCES, studies::TWO_RESONANCES_REPORT, 3),
+    ];
+    assert_reports(&rt, rt.alloc(), &cases)
+}
+
+#[test]
+fn reports_of_three_phases(rt: HostRuntime) -> Result<(), Fail> {
+    let cases = [
+        (phases::NOT_LIVE, phases::NOT_LIVE_REPORT, 4),
+        (phases::SOURCE, phases::SOURCE_REPORT, 0),
+        (phases::FEEDER, phases::FEEDER_REPORT, 3),
     ];
     assert_reports(&rt, rt.alloc(), &cases)
 }

@@ -1,19 +1,16 @@
+use Rattle.net_branch.specs.Exact.{exact_network}
 use Rattle.harmscan_core.specs.Texts.{counted_text}
-use Rattle.harmscan_core.proofs.Drills.{is_drill, network_is, nodes_are, boxes_are, have_texts, text_is_written, drill_reported, drill_not_taken}
+use Rattle.harmscan_core.proofs.Drills.{is_drill, nodes_are, boxes_are, have_texts, text_is_written, drill_reported, drill_not_taken}
 use Rattle.harmscan_core.proofs.drill.report_drill.Goals as goal
 
-pub walk_of-requires-clause-study : goal.walk_of-requires-clause-study
-walk_of-requires-clause-study g c = (is_drill c.args.number c.args.study.now c.drill_scan-scan.result c.requires.study c.drill_scan-scan.ensures).built
+pub scanned_network-requires-clause-scan : goal.scanned_network-requires-clause-scan
+scanned_network-requires-clause-scan g c = (is_drill c.args.number c.args.study.now c.drill_scan-scan.result c.requires.study c.drill_scan-scan.ensures).lawful
 
-pub walk_of-requires-clause-network : goal.walk_of-requires-clause-network
-walk_of-requires-clause-network g c =
-    network_is c.args.study.now c.drill_scan-scan.result c.args.networks.now (is_drill c.args.number c.args.study.now c.drill_scan-scan.result c.requires.study c.drill_scan-scan.ensures).positive c.requires.networks
+pub walk_of-requires-clause-study : goal.walk_of-requires-clause-study
+walk_of-requires-clause-study g c = (is_drill c.args.number c.args.study.now c.drill_scan-scan.result c.requires.study c.drill_scan-scan.ensures).study_lawful
 
 pub walk_of-requires-clause-scan : goal.walk_of-requires-clause-scan
 walk_of-requires-clause-scan g c = (is_drill c.args.number c.args.study.now c.drill_scan-scan.result c.requires.study c.drill_scan-scan.ensures).lawful
-
-pub walk_of-requires-clause-live : goal.walk_of-requires-clause-live
-walk_of-requires-clause-live g c = (is_drill c.args.number c.args.study.now c.drill_scan-scan.result c.requires.study c.drill_scan-scan.ensures).live
 
 pub walk_of-requires-clause-scale : goal.walk_of-requires-clause-scale
 walk_of-requires-clause-scale g c = (is_drill c.args.number c.args.study.now c.drill_scan-scan.result c.requires.study c.drill_scan-scan.ensures).scale
@@ -34,7 +31,7 @@ returns-in-Ok-put_drill g c =
     let boxes = c.in-Ok.walk.left in
     let walked = boxes_are number study scan boxes c.requires.study c.drill_scan-scan.ensures c.in-Ok.ensures.boxes in
     drill_reported number _ study scan boxes _ _ _ c.requires.study c.drill_scan-scan.ensures c.in-Ok.ensures.can c.in-Ok.ensures.boxes c.in-Ok-put_drill.ensures.status
-    (text_is_written number c.args.networks.now.positive.nodes scan boxes (nodes_are number study c.args.networks.now c.requires.study c.requires.networks) c.drill_scan-scan.ensures walked) c.in-Ok-put_drill.ensures.wrote
+    (text_is_written number c.scanned_network.result.now.nodes scan boxes (nodes_are number study scan (exact_network c.scanned_network.result.now) c.requires.study c.drill_scan-scan.ensures c.scanned_network.ensures.exact) c.drill_scan-scan.ensures walked) c.in-Ok-put_drill.ensures.wrote
 
 pub returns : goal.returns
 returns g c =
@@ -43,6 +40,6 @@ returns g c =
     let scan = c.drill_scan-scan.result in
     let boxes = c.in-Ok.walk.left in
     let walked = boxes_are number study scan boxes c.requires.study c.drill_scan-scan.ensures c.in-Ok.ensures.boxes in
-    drill_not_taken number (counted_text number c.args.networks.now.positive.nodes scan boxes) (g.O.Sink.state c.args.out.now) (g.O.Sink.state c.put_drill.new.out) c.in-Err-put_drill.fault c.after_put.result
-    (text_is_written number c.args.networks.now.positive.nodes scan boxes (nodes_are number study c.args.networks.now c.requires.study c.requires.networks) c.drill_scan-scan.ensures walked)
+    drill_not_taken number (counted_text number c.scanned_network.result.now.nodes scan boxes) (g.O.Sink.state c.args.out.now) (g.O.Sink.state c.put_drill.new.out) c.in-Err-put_drill.fault c.after_put.result
+    (text_is_written number c.scanned_network.result.now.nodes scan boxes (nodes_are number study scan (exact_network c.scanned_network.result.now) c.requires.study c.drill_scan-scan.ensures c.scanned_network.ensures.exact) c.drill_scan-scan.ensures walked)
     c.in-Err-put_drill.ensures.wrote c.after_put.ensures

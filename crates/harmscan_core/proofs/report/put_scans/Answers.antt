@@ -2,19 +2,19 @@ use Rattle.harmscan_core.proofs.Plans.{putting_start, putting_first, putting_nex
 use Rattle.harmscan_core.proofs.report.put_scans.Goals as goal
 
 pub scans-init : goal.scans-init
-scans-init g c = putting_start c.args.study.now c.args.plan.now.items (g.O.Sink.state c.args.out.now) c.requires.study.lawful c.requires.plan
+scans-init g c = putting_start c.args.study.now c.args.plan.now.items (g.O.Sink.state c.args.out.now) c.requires.study c.requires.plan
 
 pub put_scan-requires-clause-scan : goal.put_scan-requires-clause-scan
-put_scan-requires-clause-scan g c = (putting_first c.args.study.now c.scans.plan.items c.in-Some.planned c.pop_front.new.self.items c.scans.found _ _ c.requires.study.lawful c.in-Some.ensures.items c.scans.invariant).lawful
+put_scan-requires-clause-scan g c = (putting_first c.args.study.now c.scans.plan.items c.in-Some.planned c.pop_front.new.self.items c.scans.found _ _ c.requires.study c.in-Some.ensures.items c.scans.invariant).lawful
 
 pub put_scan-requires-clause-boxes : goal.put_scan-requires-clause-boxes
-put_scan-requires-clause-boxes g c = (putting_first c.args.study.now c.scans.plan.items c.in-Some.planned c.pop_front.new.self.items c.scans.found _ _ c.requires.study.lawful c.in-Some.ensures.items c.scans.invariant).boxes
+put_scan-requires-clause-boxes g c = (putting_first c.args.study.now c.scans.plan.items c.in-Some.planned c.pop_front.new.self.items c.scans.found _ _ c.requires.study c.in-Some.ensures.items c.scans.invariant).boxes
 
 pub put_scan-requires-clause-text : goal.put_scan-requires-clause-text
-put_scan-requires-clause-text g c = (putting_first c.args.study.now c.scans.plan.items c.in-Some.planned c.pop_front.new.self.items c.scans.found _ _ c.requires.study.lawful c.in-Some.ensures.items c.scans.invariant).texts
+put_scan-requires-clause-text g c = (putting_first c.args.study.now c.scans.plan.items c.in-Some.planned c.pop_front.new.self.items c.scans.found _ _ c.requires.study c.in-Some.ensures.items c.scans.invariant).texts
 
 pub put_scan-requires-clause-few : goal.put_scan-requires-clause-few
-put_scan-requires-clause-few g c = (putting_first c.args.study.now c.scans.plan.items c.in-Some.planned c.pop_front.new.self.items c.scans.found _ _ c.requires.study.lawful c.in-Some.ensures.items c.scans.invariant).few
+put_scan-requires-clause-few g c = (putting_first c.args.study.now c.scans.plan.items c.in-Some.planned c.pop_front.new.self.items c.scans.found _ _ c.requires.study c.in-Some.ensures.items c.scans.invariant).few
 
 pub returns-in-Err-clause-wrote : goal.returns-in-Err-clause-wrote
 returns-in-Err-clause-wrote g c =

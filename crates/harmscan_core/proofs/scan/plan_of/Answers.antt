@@ -1,12 +1,7 @@
 use Rattle.std.proofs.Common.{List, ◌+◌, sym, subst, refl, arith}
 use Rattle.harmscan_core.specs.declared.plan.PlannedScan.{PlannedScan}
 use Rattle.harmscan_core.proofs.Plans.{Planning, planning_next, planning_end}
-use Rattle.harmscan_core.proofs.StudyFacts.{scan_live_at}
 use Rattle.harmscan_core.proofs.scan.plan_of.Goals as goal
-
-pub walk_of-requires-clause-live : goal.walk_of-requires-clause-live
-walk_of-requires-clause-live g c =
-    scan_live_at c.args.study.now c.as_slice-scan-items.result.now c.loop-scan.scan-index c.scan-item.result c.requires.live c.requires.study.lawful c.as_slice-scan-items.ensures c.loop-scan-test.true c.scan-item.is
 
 pub loop-scan-preserved : goal.loop-scan-preserved
 loop-scan-preserved g c =

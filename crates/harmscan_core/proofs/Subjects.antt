@@ -1,0 +1,60 @@
+-- What the words name is read in their order, and what is told of it decides what is read.
+use Rattle.std.proofs.Common.{List, [], ◌∷◌, ◌++◌, ℕ, Option, Some, None}
+use Rattle.study_model.specs.declared.records.Study.{Study}
+use Rattle.spectrum_reader.specs.declared.injection.Injection.{Injection}
+use Rattle.spectrum_reader.specs.declared.level.Level.{Level}
+use Rattle.harmscan_core.specs.Accepted.{IsAccepted, RefusesStudy, IsSpectrum, RefusesSpectrum, AreLevels, RefusesLevels}
+use Rattle.harmscan_core.specs.Files.{Reads, TellsFile}
+use Rattle.harmscan_core.specs.Subject.{Subject, scanned, distorted, drilled, StudyBy, SpectrumBy, LevelsBy, SubjectBy, ReadsFor}
+use Rattle.harmscan_core.specs.Words.{Reading, scan, limits, drill, names_in}
+use Rattle.harmscan_core.specs.declared.files.File.TheVariants as file
+use Rattle.harmscan_core.proofs.Accepted.{study_decided}
+use Rattle.harmscan_core.proofs.Chains.{IsReading, file_is, gives_is, then_is, IsForetold, file_foretold, gives_foretold, then_foretold}
+use Rattle.harmscan_core.proofs.Spectra.{spectrum_decided, levels_decided}
+
+-- the names of a levels file or none
+abbrev name_of : Option (List ℕ) → List (List ℕ)
+name_of None = []
+name_of (Some name) = name ∷ []
+
+study_is : (name : List ℕ) → IsReading (name ∷ []) (StudyBy Reads name)
+study_is name = file_is Study file.Study IsAccepted RefusesStudy name
+
+spectrum_is : (study : Study) (name : List ℕ) → IsReading (name ∷ []) (SpectrumBy Reads study name)
+spectrum_is study name = file_is (List Injection) file.Spectrum (IsSpectrum study) (RefusesSpectrum study) name
+
+levels_are : (study : Study) (name : Option (List ℕ)) → IsReading (name_of name) (LevelsBy Reads study name)
+levels_are study None = gives_is (List Level) []
+levels_are study (Some name) = file_is (List Level) file.Levels (AreLevels study) (RefusesLevels study) name
+
+limits_is : (study spectrum : List ℕ) (levels : Option (List ℕ)) → IsReading ((study ∷ []) ++ ((spectrum ∷ []) ++ (name_of levels ++ []))) (ReadsFor (limits study spectrum levels))
+limits_is study spectrum levels =
+    then_is Study Subject (study ∷ []) ((spectrum ∷ []) ++ (name_of levels ++ [])) _ _ (study_is study) (λ s.
+    then_is (List Injection) Subject (spectrum ∷ []) (name_of levels ++ []) _ _ (spectrum_is s spectrum) (λ rows.
+    then_is (List Level) Subject (name_of levels) [] _ _ (levels_are s levels) (λ l. gives_is Subject (distorted s rows l))))
+
+-- what the words name is read in their order
+pub reads_in_order : (r : Reading) → IsReading (names_in r) (ReadsFor r)
+reads_in_order (scan study) = then_is Study Subject (study ∷ []) [] _ _ (study_is study) (λ s. gives_is Subject (scanned s))
+reads_in_order (limits study spectrum None) = limits_is study spectrum None
+reads_in_order (limits study spectrum (Some levels)) = limits_is study spectrum (Some levels)
+reads_in_order (drill number) = gives_is Subject (drilled number)
+
+-- ---- what is told
+study_told : (name : List ℕ) → IsForetold (StudyBy TellsFile name) (StudyBy Reads name)
+study_told name = file_foretold Study file.Study IsAccepted RefusesStudy name study_decided
+
+spectrum_told : (study : Study) (name : List ℕ) → IsForetold (SpectrumBy TellsFile study name) (SpectrumBy Reads study name)
+spectrum_told study name = file_foretold (List Injection) file.Spectrum (IsSpectrum study) (RefusesSpectrum study) name (spectrum_decided study)
+
+levels_told : (study : Study) (name : Option (List ℕ)) → IsForetold (LevelsBy TellsFile study name) (LevelsBy Reads study name)
+levels_told study None = gives_foretold (List Level) []
+levels_told study (Some name) = file_foretold (List Level) file.Levels (AreLevels study) (RefusesLevels study) name (levels_decided study)
+
+pub reads_as_told : (r : Reading) → IsForetold (SubjectBy TellsFile r) (ReadsFor r)
+reads_as_told (scan study) = then_foretold Study Subject (study ∷ []) _ _ _ _ (study_is study) (study_told study) (λ s. gives_foretold Subject (scanned s))
+reads_as_told (limits study spectrum levels) =
+    then_foretold Study Subject (study ∷ []) _ _ _ _ (study_is study) (study_told study) (λ s.
+    then_foretold (List Injection) Subject (spectrum ∷ []) _ _ _ _ (spectrum_is s spectrum) (spectrum_told s spectrum) (λ rows.
+    then_foretold (List Level) Subject (name_of levels) _ _ _ _ (levels_are s levels) (levels_told s levels) (λ l. gives_foretold Subject (distorted s rows l))))
+reads_as_told (drill number) = gives_foretold Subject (drilled number)

@@ -1,0 +1,33 @@
+-- What the files of `limits` are.
+use Rattle.std.specs.Prelude.{List, Result, Ok, Err}
+use Rattle.spectrum_reader.specs.declared.injection.Injection.{Injection}
+use Rattle.spectrum_reader.specs.declared.level.Level.{Level}
+use Rattle.spectrum_reader.specs.declared.injection.Spectrum.{Spectrum}
+use Rattle.spectrum_reader.specs.declared.level.Levels.{Levels}
+use Rattle.study_model.specs.declared.records.Study.{Study}
+use Rattle.harmscan_core.specs.Subject.{Subject, distorted}
+use Rattle.harmscan_core.specs.declared.plan.AcceptedStudy.{AcceptedStudy}
+use Rattle.harmscan_core.specs.declared.inputs.Inputs.{Inputs}
+use Rattle.harmscan_core.specs.declared.outcome.Outcome.{Outcome}
+
+-- a study without its networks
+abbrev pub study_alone : Result AcceptedStudy Outcome → Result Study Outcome
+study_alone (Ok accepted) = Ok accepted.study
+study_alone (Err outcome) = Err outcome
+
+-- the currents of a spectrum
+abbrev pub injections_in : Result Spectrum Outcome → Result (List Injection) Outcome
+injections_in (Ok spectrum) = Ok spectrum.rows
+injections_in (Err outcome) = Err outcome
+
+-- the rows of planning levels
+abbrev pub levels_in : Result Levels Outcome → Result (List Level) Outcome
+levels_in (Ok levels) = Ok levels.rows
+levels_in (Err outcome) = Err outcome
+
+abbrev pub subject_in : Inputs → Subject
+subject_in inputs = distorted inputs.accepted.study inputs.spectrum.rows inputs.levels.rows
+
+abbrev pub subject_of : Result Inputs Outcome → Result Subject Outcome
+subject_of (Ok inputs) = Ok (subject_in inputs)
+subject_of (Err outcome) = Err outcome

@@ -1,0 +1,75 @@
+-- What a run reports of, and the files that it reads for it.
+use Rattle.std.specs.Prelude.{ℕ, List, [], Option, Some, None, Result}
+use Rattle.harm_io.specs.Shelves.{ShelfState}
+use Rattle.study_model.specs.declared.records.Study.{Study}
+use Rattle.spectrum_reader.specs.declared.injection.Injection.{Injection}
+use Rattle.spectrum_reader.specs.declared.level.Level.{Level}
+use Rattle.scan_report.specs.Reading.{text_of}
+use Rattle.drill_study.specs.Drill.{drill_of}
+use Rattle.limits_report.specs.Claim.{HoldsOfLimits}
+use Rattle.limits_report.specs.Report.{limits_rows_of, limits_status}
+use Rattle.harmscan_core.specs.Accepted.{IsAccepted, RefusesStudy, IsSpectrum, RefusesSpectrum, AreLevels, RefusesLevels}
+use Rattle.harmscan_core.specs.Claim.{HoldsOfStudy}
+use Rattle.harmscan_core.specs.Files.{Reads, TellsFile, Gives, Then}
+use Rattle.harmscan_core.specs.Report.{report_text, report_status, drill_text}
+use Rattle.harmscan_core.specs.Words.{Reading, scan, limits, drill}
+use Rattle.harmscan_core.specs.declared.files.File.{File}
+use Rattle.harmscan_core.specs.declared.files.File.TheVariants as file
+use Rattle.harmscan_core.specs.declared.files.Refusal.{Refusal}
+use Rattle.harmscan_core.specs.declared.outcome.Outcome.{Outcome}
+
+-- the scans of a study, the distortion that a spectrum causes in it, judged by planning levels too, or the scan of a drill
+pub data Subject : Type 0 where
+  scanned : Study → Subject
+  distorted : Study → List Injection → List Level → Subject
+  drilled : ℕ → Subject
+
+-- the bytes of its report
+abbrev pub text_for : Subject → List ℕ
+text_for (scanned study) = report_text study
+text_for (distorted study rows levels) = text_of (limits_rows_of study rows levels)
+text_for (drilled number) = drill_text number
+
+-- the status of its report
+abbrev pub status_for : Subject → ℕ
+status_for (scanned study) = report_status study
+status_for (distorted study rows levels) = limits_status study rows levels
+status_for (drilled number) = report_status (drill_of number)
+
+-- what its report claims
+abbrev pub Claims : Subject → Type 0
+Claims (scanned study) = HoldsOfStudy study
+Claims (distorted study rows levels) = HoldsOfLimits study rows levels
+Claims (drilled number) = HoldsOfStudy (drill_of number)
+
+-- a way in which a file is read: what its bytes may be, for what they may be refused, its name, the shelf before and after, and the answer
+abbrev pub FileReading : Type 1
+FileReading = (A : Type 0) → File → (List ℕ → A → Type 0) → (List ℕ → Refusal → Type 0) → List ℕ → ShelfState → ShelfState → Result A Outcome → Type 0
+
+-- a study: its refusals are those of its bytes and those of its networks
+abbrev pub StudyBy : FileReading → List ℕ → ShelfState → ShelfState → Result Study Outcome → Type 0
+StudyBy read name = read Study file.Study IsAccepted RefusesStudy name
+
+-- a spectrum beside a study
+abbrev pub SpectrumBy : FileReading → Study → List ℕ → ShelfState → ShelfState → Result (List Injection) Outcome → Type 0
+SpectrumBy read study name = read (List Injection) file.Spectrum (IsSpectrum study) (RefusesSpectrum study) name
+
+-- planning levels beside a study, which are none where the words name no file of them
+abbrev pub LevelsBy : FileReading → Study → Option (List ℕ) → ShelfState → ShelfState → Result (List Level) Outcome → Type 0
+LevelsBy read study None = Gives []
+LevelsBy read study (Some name) = read (List Level) file.Levels (AreLevels study) (RefusesLevels study) name
+
+-- What the words name, each file read in this way, one after another.
+abbrev pub SubjectBy : FileReading → Reading → ShelfState → ShelfState → Result Subject Outcome → Type 0
+SubjectBy read (scan study) = Then (StudyBy read study) (λ s. Gives (scanned s))
+SubjectBy read (limits study spectrum levels) =
+    Then (StudyBy read study) (λ s. Then (SpectrumBy read s spectrum) (λ rows. Then (LevelsBy read s levels) (λ l. Gives (distorted s rows l))))
+SubjectBy read (drill number) = Gives (drilled number)
+
+-- what a run reads
+abbrev pub ReadsFor : Reading → ShelfState → ShelfState → Result Subject Outcome → Type 0
+ReadsFor = SubjectBy Reads
+
+-- what the shelf tells of it, up to the file that ends the run
+abbrev pub TellsFor : Reading → ShelfState → Result Subject Outcome → Type 0
+TellsFor r shelf = SubjectBy TellsFile r shelf shelf
