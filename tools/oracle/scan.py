@@ -4,7 +4,7 @@
 usage: scan.py STUDY
 
 It follows docs/elements.md, arithmetic.md, admittance.md, elimination.md, inverse.md, branchwise.md, scan.md and report.md over
-Python's whole numbers and exact fractions, and shares no code with harmscan. It takes accepted studies of the sequence model alone, and judges nothing: of a
+Python's whole numbers and exact fractions, and shares no code with harmscan. It takes accepted studies, and judges nothing: of a
 study that harmscan refuses it says nothing, or anything. It is slow: a test of a box takes milliseconds.
 """
 import math
@@ -211,11 +211,16 @@ def enclosed(a, rows):
 # ---- the estimate branch by branch, with the bound of its error
 
 class Drop:
-    """The sum of the voltages of some nodes, each times the ratio of its tap; and the admittances that count at it, as a middle and a rest."""
+    """The sum of the voltages of some nodes, each times the ratio of its tap; and the admittances with which other drops count at it, by their
+    numbers, each as a middle and a rest."""
 
     def __init__(self, taps):
         self.taps = taps
-        self.middle = self.rest = NOUGHT
+        self.middles, self.rests = {}, {}
+
+    def grow(self, a, number, middle, rest):
+        self.middles[number] = a.cadd(self.middles.get(number, NOUGHT), middle)
+        self.rests[number] = a.cadd(self.rests.get(number, NOUGHT), rest)
 
     def of(self, a, voltages):
         total = NOUGHT
@@ -230,20 +235,24 @@ def halves(a, y):
     return middle, a.csub(y, middle)
 
 
-def drops_of(a, count, branches):
-    """One for each node, then one for each branch of two taps or more. Branches are pairs of their taps and their admittances."""
-    drops = [Drop([(place, a.of(Fraction(1)))]) for place in range(count)]
-    for taps, y in branches:
-        middle, rest = halves(a, y)
-        drop, factor = None, a.of(Fraction(1))
-        if len(taps) == 1:
-            (place, ratio), = taps
-            drop, factor = drops[place], a.mul(ratio, ratio)
-        else:
-            drop = Drop(taps)
-            drops.append(drop)
-        drop.middle = a.cadd(drop.middle, a.cscale(middle, factor))
-        drop.rest = a.cadd(drop.rest, a.cscale(rest, factor))
+def drops_of(a, count, units):
+    """One for each node, then one for each branch of two taps or more, and for each branch of a group. Units have their branches' taps, their
+    admittances by row and column, and whether they are a group."""
+    one = a.of(Fraction(1))
+    drops = [Drop([(place, one)]) for place in range(count)]
+    for branches, ys, coupled in units:
+        if not coupled and len(branches[0]) == 1:
+            (place, ratio), = branches[0]
+            middle, rest = halves(a, ys[0][0])
+            factor = a.mul(ratio, ratio)
+            drops[place].grow(a, place, a.cscale(middle, factor), a.cscale(rest, factor))
+            continue
+        first = len(drops)
+        drops += [Drop(taps) for taps in branches]
+        for p, row in enumerate(ys):
+            for q, y in enumerate(row):
+                middle, rest = halves(a, y)
+                drops[first + p].grow(a, first + q, a.cscale(middle, one), a.cscale(rest, one))
     return drops
 
 
@@ -265,7 +274,7 @@ class Reach:
     def of(self, sizes):
         nodes = [kept(sum(self.part(e, v) for e, v in zip(row, sizes))) for row in self.eta]
         edges = [kept(sum(self.part(mag(ratio), nodes[place]) for place, ratio in drop.taps)) for drop in self.drops]
-        far = [kept(self.part(r, v)) for r, v in zip(self.rho, sizes)]
+        far = [kept(sum(self.part(r, sizes[other]) for other, r in row.items())) for row in self.rho]
         return edges, [kept(edge + sum(self.part(k, f) for k, f in zip(row, far))) for edge, row in zip(edges, self.kappa)]
 
 
@@ -277,21 +286,22 @@ def corrected(a, k, x, d):
         return a.cmul(k, a.cmul(x, d))
 
 
-def estimated(a, count, branches):
+def estimated(a, count, units):
     """The impedance of the last node as a rectangle, and the bound of its error, in units of 1/2^S."""
-    drops = drops_of(a, count, branches)
+    drops = drops_of(a, count, units)
     middles = [[NOUGHT] * count for _ in range(count)]
     for drop in drops:
-        for i, c in drop.taps:
-            for j, d in drop.taps:
-                middles[i][j] = a.cadd(middles[i][j], a.cscale(drop.middle, a.mul(c, d)))
+        for other, middle in drop.middles.items():
+            for i, c in drop.taps:
+                for j, d in drops[other].taps:
+                    middles[i][j] = a.cadd(middles[i][j], a.cscale(middle, a.mul(c, d)))
     guess = middle_inverse(a, middles)
     columns = list(zip(*middles))
     one = point(a.one_raw)
     eta = [[kept(size(a.csub(one if i == j else NOUGHT, dot(a, guess[i], columns[j])))) for j in range(count)] for i in range(count)]
     voltages = [[drop.of(a, row) for row in guess] for drop in drops]
     kappa = [[kept(size(drop.of(a, v))) for v in voltages] for drop in drops]
-    rho = [kept(size(drop.rest)) for drop in drops]
+    rho = [{other: kept(size(rest)) for other, rest in drop.rests.items()} for drop in drops]
     reach = Reach(a, drops, eta, kappa, rho)
     last = count - 1
     column = voltages[last]
@@ -304,8 +314,9 @@ def estimated(a, count, branches):
         raise NoValue
     error = kept(edges[last] + ceil_div(weighed[last] << a.scale, a.one_raw - theta))
     total = NOUGHT
-    for drop, v, x in zip(drops, voltages, found):
-        total = a.cadd(total, corrected(a, v[last], x, drop.rest))
+    for drop, v in zip(drops, voltages):
+        for other, rest in drop.rests.items():
+            total = a.cadd(total, corrected(a, v[last], found[other], rest))
     return a.csub(column[last], total), error
 
 
@@ -329,7 +340,7 @@ class Curve:
         return min([self.at(lo), self.at(hi)] + [Fraction(ohms) for at, ohms in self.points if lo < at < hi])
 
 
-# ---- networks: branches are (taps, law); a tap is (node, ratio)
+# ---- networks: branches are (taps, law); a tap is (node, ratio). Three coupled branches come one after another.
 
 class Network:
     def __init__(self, buses):
@@ -344,8 +355,13 @@ class Network:
     def series(self, taps, r, x, xc=Fraction(0), k=Fraction(0), m=Fraction(1)):
         self.branches.append((taps, ("series", r, k, m, x, xc)))
 
-    def shunt(self, node, b):
-        self.branches.append(([(node, Fraction(1))], ("shunt", b)))
+    def shunt(self, taps, b):
+        self.branches.append((taps, ("shunt", b)))
+
+    def group(self, three, own, mutual, pairs=None, k=Fraction(0), m=Fraction(1)):
+        """Three coupled branches, by their own r and x and the mutual ones; or by the mutual reactances of a and b, b and c, c and a."""
+        for place, taps in enumerate(three):
+            self.branches.append((taps, ("coupled", place, *own, mutual[0], *(pairs or [mutual[1]] * 3), k, m)))
 
     def live(self):
         live = set()
@@ -412,8 +428,8 @@ class Study:
         for near, far in zip(nodes, nodes[1:]):
             net.series(between(near, far), self.ohms(e[r], v) / count, self.ohms(e[x], v) / count, **self.skin(e))
             if shunt > 0:
-                net.shunt(near, shunt)
-                net.shunt(far, shunt)
+                net.shunt(ground(near), shunt)
+                net.shunt(ground(far), shunt)
 
     def transformer(self, net, e, zero):
         sides = {"from": self.bus[e["from"]], "to": self.bus[e["to"]]}
@@ -457,7 +473,7 @@ class Study:
 
     def bank(self, net, e, zero):
         if not zero or e.get("grounded", False):
-            net.shunt(self.bus[e["bus"]], decimal(e["q"]) / self.mva)
+            net.shunt(ground(self.bus[e["bus"]]), decimal(e["q"]) / self.mva)
 
     def filter(self, net, e, zero):
         if zero and not e.get("grounded", False):
@@ -479,21 +495,256 @@ class Study:
             net.series(ground(node), Fraction(0), x, x)
 
 
+# ---- networks of three phases: node 3i + p is that of phase p at bus i
+
+def opposite(taps):
+    return [(node, -ratio) for node, ratio in taps]
+
+
+class Phases(Study):
+    """A study whose network is that of the three phases."""
+
+    def __init__(self, table):
+        super().__init__(table)
+        self.root3 = decimal(table["study"].get("root3", "1.732051"))
+
+    def network(self, zero=None):
+        """The network of the phases; a sequence network where one is asked for."""
+        if zero is not None:
+            return super().network(zero)
+        net = Network(3 * len(self.kv))
+        for kind in ("source", "line", "transformer", "load", "bank", "filter"):
+            for entry in self.table.get(kind, []):
+                getattr(self, kind + "_phases")(net, entry)
+        return net
+
+    def of_bus(self, name):
+        return [3 * self.bus[name] + phase for phase in range(3)]
+
+    def impedance(self, e, r, x, v):
+        return self.ohms(e[r], v), self.ohms(e[x], v)
+
+    def own_and_mutual(self, e, v, parts=1):
+        z, z0 = self.impedance(e, "r", "x", v), self.impedance(e, "r0", "x0", v)
+        return [(b + 2 * a) / (3 * parts) for a, b in zip(z, z0)], [(b - a) / (3 * parts) for a, b in zip(z, z0)]
+
+    def source_phases(self, net, e):
+        nodes, v = self.of_bus(e["bus"]), self.kv[self.bus[e["bus"]]]
+        if "r0" in e:
+            net.group([ground(node) for node in nodes], *self.own_and_mutual(e, v), **self.skin(e))
+            return
+        neutral = net.inner()
+        for node in nodes:
+            net.series(between(node, neutral), *self.impedance(e, "r", "x", v), **self.skin(e))
+
+    def line_phases(self, net, e):
+        v, count = self.kv[self.bus[e["from"]]], e.get("sections", 1)
+        ends = [self.of_bus(e["from"])] + [[net.inner() for _ in range(3)] for _ in range(count - 1)] + [self.of_bus(e["to"])]
+        own, mutual = self.own_and_mutual(e, v, count)
+        pairs = [self.ohms(e[key], v) / count for key in ("xab", "xbc", "xca")] if "xab" in e else None
+        b, b0 = self.siemens(e.get("b", 0), v), self.siemens(e.get("b0", 0), v)
+        for near, far in zip(ends, ends[1:]):
+            net.group([between(p, q) for p, q in zip(near, far)], own, mutual, pairs, **self.skin(e))
+            for three in (near, far):
+                for node in three if b0 > 0 else []:
+                    net.shunt(ground(node), b0 / (2 * count))
+                for p in range(3) if b > b0 else []:
+                    net.shunt(between(three[p], three[(p + 1) % 3]), (b - b0) / (6 * count))
+
+    def transformer_phases(self, net, e):
+        base = 100 * decimal(e["mva"])
+        leakage = [decimal(e[key]) * self.mva / base for key in ("r", "x")]
+        sides = [("from", e.get("from_conn", "star"), 1 / decimal(e.get("ratio", 1))), ("to", e.get("to_conn", "star"), Fraction(-1))]
+        if all(way == "star" for _, way, _ in sides):
+            joint = net.inner()
+            for p in range(3):
+                taps = [(self.of_bus(e[side])[p], ratio) for side, _, ratio in sides] + [(joint, Fraction(1))]
+                net.series(taps, *leakage, **self.skin(e))
+            return
+        windings, neutrals = [], []
+        for side, way, ratio in sides:
+            nodes, v = self.of_bus(e[side]), self.kv[self.bus[e[side]]]
+            taps = [[(node, ratio)] for node in nodes]
+            earth = [self.ohms(e.get(side + key, 0), v) for key in ("_rn", "_xn")]
+            if way == "delta":
+                taps = [[(nodes[p], ratio / self.root3), (nodes[(p + 1) % 3], -ratio / self.root3)] for p in range(3)]
+            elif way == "star" or earth != [0, 0]:
+                neutral = net.inner()
+                taps = [[(node, ratio), (neutral, -ratio)] for node in nodes]
+                if way == "grounded":
+                    neutrals.append((neutral, earth))
+            windings.append(taps)
+        for start, end in zip(*windings):
+            net.series(start + end, *leakage, **self.skin(e))
+        for neutral, earth in neutrals:
+            net.series(ground(neutral), *earth, **self.skin(e))
+
+    def each_phase(self, net, e, add):
+        """The positive branches of each phase to one point, or those of the element's own phase to ground, with its power on that phase."""
+        nodes = self.of_bus(e["bus"])
+        if "phase" in e:
+            add(nodes["abc".index(e["phase"])], None, 3)
+            return
+        neutral = None if e.get("grounded", False) else net.inner()
+        for node in nodes:
+            add(node, neutral, 1)
+
+    def load_phases(self, net, e):
+        s, v = self.mva, self.kv[self.bus[e["bus"]]]
+
+        def add(node, neutral, times):
+            taps = to(node, neutral)
+            if e["model"] == "series":
+                net.series(taps, *self.impedance(e, "r", "x", v))
+                return
+            p, q = times * decimal(e["p"]), times * decimal(e["q"])
+            if e["model"] == "parallel":
+                if p > 0:
+                    net.series(taps, s / p, Fraction(0))
+                if q > 0:
+                    net.series(taps, Fraction(0), s / q)
+                return
+            net.series(taps, s / p, 73 * s / (1000 * p))
+            if 670 * q > 74 * p:
+                net.series(taps, Fraction(0), 100 * s / (670 * q - 74 * p))
+        self.each_phase(net, e, add)
+
+    def bank_phases(self, net, e):
+        self.each_phase(net, e, lambda node, neutral, times: net.shunt(to(node, neutral), times * decimal(e["q"]) / self.mva))
+
+    def filter_phases(self, net, e):
+        n, quality = decimal(e["order"]), decimal(e["quality"])
+
+        def add(node, neutral, times):
+            xc = self.mva / (times * decimal(e["q"]))
+            if e["kind"] == "single":
+                net.series(to(node, neutral), xc / (n * quality), xc / (n * n), xc)
+                return
+            inner = net.inner()
+            net.series(between(node, inner), Fraction(0), Fraction(0), xc)
+            if e["kind"] == "highpass":
+                net.series(to(inner, neutral), quality * xc / n, Fraction(0))
+                net.series(to(inner, neutral), Fraction(0), xc / (n * n))
+            else:
+                x = xc / (n * n - 1)
+                net.series(to(inner, neutral), quality * n * x, Fraction(0))
+                net.series(to(inner, neutral), Fraction(0), x, x)
+        self.each_phase(net, e, add)
+
+
+def to(node, neutral):
+    return ground(node) if neutral is None else between(node, neutral)
+
+
+def study_of(table):
+    return (Phases if table["study"].get("model") == "phases" else Study)(table)
+
+
+# ---- the admittances of branches and groups
+
+def solution(a, rows, right):
+    """The solution of a system, by the steps of the reduction with one column more."""
+    rows = [row + [b] for row, b in zip(rows, right)]
+    n = len(rows)
+    for step, pivot in enumerate(rows):
+        if all(part[0] <= 0 <= part[1] for part in pivot[step]):
+            raise NoValue
+        for row in rows[step + 1:]:
+            if row[step] != NOUGHT:
+                factor = a.cdiv(row[step], pivot[step])
+                for column in range(step + 1, n + 1):
+                    row[column] = a.csub(row[column], a.cmul(factor, pivot[column]))
+    found = [None] * n
+    for i in reversed(range(n)):
+        left = rows[i][n]
+        for j in range(i + 1, n):
+            left = a.csub(left, a.cmul(rows[i][j], found[j]))
+        found[i] = a.cdiv(left, rows[i][i])
+    return found
+
+
+class Unit:
+    """A branch alone, or three coupled ones, with the taps that are at live nodes."""
+
+    def __init__(self, a, branches, places):
+        self.a = a
+        self.law = branches[0][1]
+        self.exact = [[tap for tap in taps if tap[0] in places] for taps, _ in branches]
+        self.taps = [[(places[node], a.of(ratio)) for node, ratio in taps] for taps in self.exact]
+        self.factors = [[[(i, j, a.mul(c, d)) for i, c in row for j, d in column] for column in self.taps] for row in self.taps]
+        self.values = [a.of(x) for x in self.law[2 if self.law[0] == "coupled" else 1:]]
+
+    def resistance(self, r, h, k, m):
+        a = self.a
+        plain = self.law[2] == 0 if self.law[0] == "series" else self.law[-2] == 0
+        if plain:
+            return r
+        return a.mul(r, a.sub(a.add(a.of(Fraction(1)), k), a.div(a.mul(k, m), a.add(m, a.square(h)))))
+
+    def admittances(self, h):
+        """By row and column of the unit's branches."""
+        a = self.a
+        one = a.of(Fraction(1))
+        if self.law[0] == "shunt":
+            return [[((0, 0), a.mul(h, self.values[0]))]]
+        if self.law[0] == "series":
+            r, k, m, x, xc = self.values
+            return [[a.cdiv((one, (0, 0)), (self.resistance(r, h, k, m), a.sub(a.mul(h, x), a.div(xc, h))))]]
+        own_r, own_x, mutual_r, ab, bc, ca, k, m = self.values
+        own = (self.resistance(own_r, h, k, m), a.mul(h, own_x))
+        mutual = {pair: (self.resistance(mutual_r, h, k, m), a.mul(h, x)) for pair, x in (((0, 1), ab), ((1, 2), bc), ((0, 2), ca))}
+        rows = [[own if p == q else mutual[min(p, q), max(p, q)] for q in range(3)] for p in range(3)]
+        columns = [solution(a, rows, [(one, (0, 0)) if p == q else NOUGHT for p in range(3)]) for q in range(3)]
+        return [list(row) for row in zip(*columns)]
+
+    def kept(self, h):
+        """The branches that have a tap, their admittances, and whether they are of a group."""
+        ys = self.admittances(h)
+        there = [p for p, taps in enumerate(self.taps) if taps]
+        return [self.taps[p] for p in there], [[ys[p][q] for q in there] for p in there], self.law[0] == "coupled"
+
+    def apart(self, places):
+        """A group whose mutual reactances are equal, as four branches; any other unit as it is."""
+        if self.law[0] != "coupled" or len(set(self.law[5:8])) != 1:
+            return [self]
+        _, _, own_r, own_x, mutual_r, ab, _, _, k, m = self.law
+        a, b, c = self.exact
+        difference = ("series", 3 * (own_r - mutual_r), k, m, 3 * (own_x - ab), Fraction(0))
+        total = ("series", 3 * (own_r + 2 * mutual_r), k, m, 3 * (own_x + 2 * ab), Fraction(0))
+        four = [(a + opposite(b), difference), (b + opposite(c), difference), (a + opposite(c), difference), (a + b + c, total)]
+        return [Unit(self.a, [branch], places) for branch in four if branch[0]]
+
+
+def units_of(a, net, places):
+    """The branches and groups that have a live node."""
+    units, rest = [], list(net.branches)
+    while rest:
+        count = 3 if rest[0][1][0] == "coupled" else 1
+        branches, rest = rest[:count], rest[count:]
+        if any(node in places for taps, _ in branches for node, _ in taps):
+            units.append(Unit(a, branches, places))
+    return units
+
+
 # ---- the matrix of a box, and its reduction
 
 class Scan:
     def __init__(self, study, entry):
         self.a = Arithmetic(study.scale)
         self.bus = study.bus[entry["bus"]]
-        net = study.network(entry.get("network", "positive") == "zero")
+        if "phase" in entry:
+            net, driven = study.network(), 3 * self.bus + "abc".index(entry["phase"])
+        else:
+            net, driven = study.network(entry.get("network", "positive") == "zero"), self.bus
         live = net.live()
         ordering = [n for n in range(net.buses, net.nodes) if n in live]
-        ordering += [n for n in range(net.buses) if n in live and n != self.bus]
-        ordering += [self.bus]
-        self.place = {node: place for place, node in enumerate(ordering)}
+        ordering += [n for n in range(net.buses) if n in live and n != driven]
+        ordering += [driven]
+        self.fed = driven in live
+        self.places = {node: place for place, node in enumerate(ordering)}
         self.size = len(ordering)
-        self.branches = [b for b in net.branches if b[0][0][0] in live]
-        self.prepared = None
+        self.net = net
+        self.units = None
         self.v, self.s = millionths(str(study.table["bus"][self.bus]["kv"])), millionths(str(study.table["study"]["mva"]))
         self.curve = Curve(entry)
         self.method = study.table["study"].get("method", "elimination")
@@ -501,36 +752,22 @@ class Scan:
         self.locate = millionths(str(entry.get("locate", entry["finest"])))
         self.lo, self.hi = millionths(str(entry["from"])), millionths(str(entry["to"]))
 
-    def parameters(self, branch):
-        taps, law = branch
-        factors = [(self.place[n], self.place[o], self.a.mul(self.a.of(c), self.a.of(d))) for n, c in taps for o, d in taps]
-        return law[0], law[0] == "series" and law[2] == 0, [self.a.of(x) for x in law[1:]], factors, [(self.place[n], self.a.of(c)) for n, c in taps]
+    def prepared(self):
+        if self.units is None:
+            self.units = units_of(self.a, self.net, self.places)
+        return self.units
 
-    def admittance(self, h, branch):
-        a = self.a
-        kind, plain, values, *_ = branch
-        if kind == "shunt":
-            return ((0, 0), a.mul(h, values[0]))
-        r, k, m, x, xc = values
-        one = a.of(Fraction(1))
-        if not plain:
-            r = a.mul(r, a.sub(a.add(one, k), a.div(a.mul(k, m), a.add(m, a.square(h)))))
-        reactance = a.sub(a.mul(h, x), a.div(xc, h))
-        return a.cdiv((one, (0, 0)), (r, reactance))
-
-    def admittances(self, lo, hi):
-        """Each branch with its admittance over the box."""
-        if self.prepared is None:
-            self.prepared = [self.parameters(b) for b in self.branches]
-        h = ends(floor_div(lo << self.a.scale, MILLION), ceil_div(hi << self.a.scale, MILLION))
-        return [(branch, self.admittance(h, branch)) for branch in self.prepared]
+    def orders(self, lo, hi):
+        return ends(floor_div(lo << self.a.scale, MILLION), ceil_div(hi << self.a.scale, MILLION))
 
     def matrix(self, lo, hi):
-        a = self.a
+        a, h = self.a, self.orders(lo, hi)
         rows = [[NOUGHT] * self.size for _ in range(self.size)]
-        for branch, y in self.admittances(lo, hi):
-            for row, column, factor in branch[3]:
-                rows[row][column] = a.cadd(rows[row][column], a.cscale(y, factor))
+        for unit in self.prepared():
+            for ys, factors in zip(unit.admittances(h), unit.factors):
+                for y, pairs in zip(ys, factors):
+                    for row, column, factor in pairs:
+                        rows[row][column] = a.cadd(rows[row][column], a.cscale(y, factor))
         return rows
 
     def reduced(self, rows):
@@ -581,7 +818,9 @@ class Scan:
         """The same of the branch-wise part."""
         most, least = math.floor(T * (1 << self.a.scale)), math.ceil(T * (1 << self.a.scale))
         try:
-            z, error = estimated(self.a, self.size, [(branch[4], y) for branch, y in self.admittances(lo, hi)])
+            h = self.orders(lo, hi)
+            parts = [part for unit in self.prepared() for part in unit.apart(self.places)]
+            z, error = estimated(self.a, self.size, [part.kept(h) for part in parts])
         except NoValue:
             return False, None
         clear = most <= LIMIT and root_ceil(high_square(z)) + error <= most
@@ -591,7 +830,9 @@ class Scan:
         return clear, over * self.v * self.v // ((1 << self.a.scale) * self.s)
 
     def answers(self, lo, hi):
-        """The answers of the parts, the first of them first."""
+        """The answers of the parts, the first of them first; none at a node that is not fed."""
+        if not self.fed:
+            return
         T = self.curve.least(lo, hi) * self.s / (self.v * self.v)
         try:
             rows = self.matrix(lo, hi)
@@ -649,14 +890,14 @@ def region_row(number, run, hz):
 
 
 def report(table):
-    study = Study(table)
+    study = study_of(table)
     hz = millionths(str(table["study"].get("hz", 50)))
     status = 0
     for entry in table.get("scan", []):
         scan = Scan(study, entry)
         threshold = six(millionths(str(entry["threshold"]))) if "threshold" in entry else "curve"
         method = table["study"].get("method", "elimination")
-        yield f"scan,{entry['name']},{entry['bus']},{entry.get('network', 'positive')},{six(scan.lo)},{six(scan.hi)},{threshold},{method}"
+        yield f"scan,{entry['name']},{entry['bus']},{entry.get('phase', entry.get('network', 'positive'))},{six(scan.lo)},{six(scan.hi)},{threshold},{method}"
         counts, regions, run, number = {"cleared": 0, "peak": 0, "undecided": 0}, 0, [], 0
         for box in scan.boxes():
             if box[2] == "cleared" and run:
