@@ -42,31 +42,28 @@ elements_lawful study s =
     (each_append lawful (map of_bank study.banks) _ (section study of_bank (IsLawfulBank study.model study.buses) (λ x h. h) study.banks s.banks)
     (section study of_filter (IsLawfulFilter study.model study.buses) (λ x h. h) study.filters s.filters)))))
 
--- what is known of each branch of a network whose last element has the number `last`
-pub record IsStudyBranch (last : ℕ) (b : Branch) : Type 0 where
+-- what is known of each branch of a network
+pub record IsStudyBranch (b : Branch) : Type 0 where
   pub uncoupled : IsUncoupled b
   pub small : IsSmallLaw b.law
-  pub number : (1 ≤ b.owner) × (b.owner ≤ last)
 
-of_sound : (nodes owner last : ℕ) → 1 ≤ owner → owner ≤ last → (b : Branch) → IsSoundBranch nodes owner b → IsStudyBranch last b
-of_sound nodes owner last h k b s = record { uncoupled = is_uncoupled nodes owner b s; small = s.law.small; number = (omega (arith, s.owner), omega (arith, s.owner)) }
+of_sound : (nodes owner : ℕ) (b : Branch) → IsSoundBranch nodes owner b → IsStudyBranch b
+of_sound nodes owner b s = record { uncoupled = is_uncoupled nodes owner b s; small = s.law.small }
 
-with_each : (study : Study) (sequence : Sequence) (last : ℕ) → IsLawful study → (n : Network) (owner : ℕ) (es : List StudyElement) → AllByRecursion (IsLawfulElement study) es
-    → length study.buses ≤ n.nodes → 1 ≤ owner → owner + length es ≤ last + 1 → AllByRecursion (IsStudyBranch last) n.branches
-    → AllByRecursion (IsStudyBranch last) (with_elements study sequence n owner es).branches
-with_each study sequence last s n owner [] h b f l p = p
-with_each study sequence last s n owner (e ∷ es) h b f l p =
+with_each : (study : Study) (sequence : Sequence) → IsLawful study → (n : Network) (owner : ℕ) (es : List StudyElement) → AllByRecursion (IsLawfulElement study) es → length study.buses ≤ n.nodes
+    → AllByRecursion IsStudyBranch n.branches → AllByRecursion IsStudyBranch (with_elements study sequence n owner es).branches
+with_each study sequence s n owner [] h b p = p
+with_each study sequence s n owner (e ∷ es) h b p =
     let added = expansion_of study sequence n.nodes e owner in
-    let new = each_weaker (IsSoundBranch (n.nodes + added.inner) owner) (IsStudyBranch last) (of_sound (n.nodes + added.inner) owner last f (omega arith)) added.branches (element_sound study sequence n.nodes owner e s h.0 b) in
-    with_each study sequence last s (with_element n added) (owner + 1) es h.1 (omega arith) (omega arith) (omega arith) (each_append (IsStudyBranch last) n.branches added.branches p new)
+    let new = each_weaker (IsSoundBranch (n.nodes + added.inner) owner) IsStudyBranch (of_sound (n.nodes + added.inner) owner) added.branches (element_sound study sequence n.nodes owner e s h.0 b) in
+    with_each study sequence s (with_element n added) (owner + 1) es h.1 (omega arith) (each_append IsStudyBranch n.branches added.branches p new)
 
-pub network_branches : (study : Study) (sequence : Sequence) → IsLawful study → AllByRecursion (IsStudyBranch (length (elements_of study))) (network_of study sequence).branches
+pub network_branches : (study : Study) (sequence : Sequence) → IsLawful study → AllByRecursion IsStudyBranch (network_of study sequence).branches
 unfolding network_of
-network_branches study sequence s =
-    with_each study sequence (length (elements_of study)) s (bus_nodes study) 1 (elements_of study) (elements_lawful study s) (omega arith) (omega arith) (omega arith) tt
+network_branches study sequence s = with_each study sequence s (bus_nodes study) 1 (elements_of study) (elements_lawful study s) (omega arith) tt
 
 pub network_uncoupled : (study : Study) (sequence : Sequence) → IsLawful study → AllByRecursion IsUncoupled (network_of study sequence).branches
-network_uncoupled study sequence s = each_weaker _ IsUncoupled (λ b h. h.uncoupled) _ (network_branches study sequence s)
+network_uncoupled study sequence s = each_weaker IsStudyBranch IsUncoupled (λ b h. h.uncoupled) _ (network_branches study sequence s)
 
 pub network_small : (study : Study) (sequence : Sequence) → IsLawful study → HaveSmallLaws (network_of study sequence).branches
-network_small study sequence s = each_weaker _ (λ b. IsSmallLaw b.law) (λ b h. h.small) _ (network_branches study sequence s)
+network_small study sequence s = each_weaker IsStudyBranch (λ b. IsSmallLaw b.law) (λ b h. h.small) _ (network_branches study sequence s)

@@ -7,6 +7,7 @@ use Rattle.element_parts.proofs.Adding.{room}
 use Rattle.sequence_network.proofs.Growth.{next_of, one_more, passing_element, all_added, whole_fits}
 use Rattle.phase_network.specs.Phases.{phases_added, phase_network_of}
 use Rattle.phase_network.proofs.Branches.{network_small, groups_more, groups_fit, start_of, no_groups}
+use Rattle.phase_network.proofs.Owners.{network_owned}
 use Rattle.phase_network.proofs.build.build_phases.Goals as goal
 
 pub loop-place-init : goal.loop-place-init
@@ -54,4 +55,5 @@ returns-clause-network c =
       whole = c.loop-place.invariant.whole;
       fits = whole_fits c.loop-place.network (phase_network_of study) c.loop-place.invariant.whole.limits exact;
       small = network_small study c.requires;
+      owners = network_owned study c.requires;
     }
