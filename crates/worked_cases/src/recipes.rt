@@ -317,6 +317,126 @@ summary,s1,1,1,0,0,0
 end,0
 ";
 
+/// examples/feeder.toml.
+const FEEDER: &str =
+    r#"# A feeder of 11 kV in three phases: its line couples them unequally, and a capacitor bank of 0.8 MVAr stands in phase b alone.
+# Where is the impedance at its end above 30 ohms?
+[study]
+version = 1
+mva = 10
+model = "phases"
+
+[[bus]]
+name = "HV"
+kv = 33
+[[bus]]
+name = "MV"
+kv = 11
+[[bus]]
+name = "END"
+kv = 11
+
+[[source]]
+name = "GRID"
+bus = "HV"
+r = "0.4"
+x = "4.1"
+r0 = "0.6"
+x0 = "5.2"
+
+[[transformer]]
+name = "T1"
+from = "HV"
+to = "MV"
+mva = 10
+r = "0.6"
+x = 8
+from_conn = "delta"
+to_conn = "grounded"
+to_rn = 1
+
+[[line]]
+name = "L1"
+from = "MV"
+to = "END"
+r = "1.1"
+x = "1.5"
+b = 18
+r0 = "2.1"
+x0 = "4.8"
+b0 = 9
+xab = "1.2"
+xbc = "1.2"
+xca = "0.9"
+
+[[load]]
+name = "D1"
+bus = "END"
+model = "parallel"
+p = 1
+q = "0.3"
+grounded = true
+
+[[bank]]
+name = "K1"
+bus = "END"
+q = "0.8"
+phase = "b"
+grounded = true
+
+[[scan]]
+name = "a"
+bus = "END"
+phase = "a"
+from = "3.6"
+to = "3.7"
+threshold = 30
+finest = "0.005"
+
+[[scan]]
+name = "b"
+bus = "END"
+phase = "b"
+from = 3
+to = "4.5"
+threshold = 30
+finest = "0.005"
+locate = "0.2"
+"#;
+
+const FEEDER_REPORT: &str = "\
+scan,a,END,a,3.600000,3.700000,30.000000,elimination
+box,1,3.600000,3.606250,cleared,-,-
+box,2,3.606250,3.612500,cleared,-,-
+box,3,3.612500,3.618750,cleared,-,-
+box,4,3.618750,3.625000,cleared,-,-
+box,5,3.625000,3.631250,cleared,-,-
+box,6,3.631250,3.637500,cleared,-,-
+box,7,3.637500,3.643750,cleared,-,-
+box,8,3.643750,3.650000,cleared,-,-
+box,9,3.650000,3.656250,cleared,-,-
+box,10,3.656250,3.662500,cleared,-,-
+box,11,3.662500,3.668750,cleared,-,-
+box,12,3.668750,3.675000,cleared,-,-
+box,13,3.675000,3.681250,cleared,-,-
+box,14,3.681250,3.687500,cleared,-,-
+box,15,3.687500,3.693750,cleared,-,-
+box,16,3.693750,3.700000,cleared,-,-
+summary,a,16,16,0,0,0
+scan,b,END,b,3.000000,4.500000,30.000000,elimination
+box,1,3.000000,3.187500,peak,3.093750,30.268599
+box,2,3.187500,3.375000,peak,3.281250,36.671012
+box,3,3.375000,3.562500,peak,3.468750,42.791390
+box,4,3.562500,3.750000,peak,3.656250,45.845287
+box,5,3.750000,3.937500,peak,3.843750,44.081648
+box,6,3.937500,4.125000,peak,4.031250,39.269536
+box,7,4.125000,4.312500,peak,4.218750,33.979350
+box,8,4.312500,4.500000,peak,4.312500,31.568291
+region,1,3.000000,4.500000,150.000000,225.000000,8,0,3.656250,45.845287
+summary,b,8,0,8,0,1
+end,3
+";
+
 #[test]
 fn recipes(rt: HostRuntime) -> Result<(), Fail> {
     let cases = [
@@ -329,6 +449,7 @@ fn recipes(rt: HostRuntime) -> Result<(), Fail> {
         (ZERO, ZERO_REPORT, 3),
         (OPEN, OPEN_REPORT, 4),
         (BRANCHWISE, BRANCHWISE_REPORT, 0),
+        (FEEDER, FEEDER_REPORT, 3),
     ];
     assert_reports(&rt, rt.alloc(), &cases)
 }

@@ -76,7 +76,6 @@ fn reports_of_three_phases(rt: HostRuntime) -> Result<(), Fail> {
     let cases = [
         (phases::NOT_LIVE, phases::NOT_LIVE_REPORT, 4),
         (phases::SOURCE, phases::SOURCE_REPORT, 0),
-        (phases::FEEDER, phases::FEEDER_REPORT, 3),
     ];
     assert_reports(&rt, rt.alloc(), &cases)
 }
