@@ -5,7 +5,7 @@ use lib.Signed.{le_z_yes}
 use Rattle.std.proofs.Math.Nat.{mod-lt}
 use Rattle.std.specs.List.{AllByRecursion}
 use Rattle.std.proofs.lemmas.List.Elements.{All-from_recursion}
-use Rattle.study_model.specs.Lawful.{IsLawful, IsLawfulBus, IsLawfulSource, IsLawfulLine, IsLawfulTransformer, IsLawfulLoad, IsLawfulBank, IsLawfulFilter, IsLawfulScan, IsLawfulPcc}
+use Rattle.study_model.specs.Lawful.{IsLawful, IsLawfulBus, IsLawfulSource, IsLawfulLine, IsLawfulTransformer, IsLawfulLoad, IsLawfulBank, IsLawfulFilter, IsLawfulScan, IsLawfulPcc, IsLawfulCandidate, IsLawfulTolerance, IsLawfulOutage}
 use Rattle.study_model.specs.Elements.{element_name, elements_of, names_of, of_source, of_line, of_load}
 use Rattle.study_model.specs.Range.{IsIn}
 use Rattle.study_model.specs.declared.range.TheConstants.Range.{ABOVE_ZERO, BAND}
@@ -265,5 +265,13 @@ drill_lawful number = record {
   scans = All-from_recursion (IsLawfulScan 1 Sequence drill_buses) (drill_scan ∷ []) (scan_lawful, tt);
   points_count = omega arith;
   points = All-from_recursion (IsLawfulPcc (drill_of number)) [] tt;
+  candidates_count = omega arith;
+  candidates = All-from_recursion (IsLawfulCandidate (drill_of number)) [] tt;
+  tolerances_count = omega arith;
+  tolerances = All-from_recursion (IsLawfulTolerance (drill_of number)) [] tt;
+  tolerances_differ = λ i j d lt short. absurd (omega arith);
+  outages_count = omega arith;
+  outages = All-from_recursion (IsLawfulOutage (drill_of number)) [] tt;
+  outages_differ = λ i j d lt short. absurd (omega arith);
   names = names_differ 0 700 _ (all_names number);
 }

@@ -142,4 +142,7 @@ drill_of number = record {
   filters = drill_filter ∷ [];
   scans = drill_scan ∷ [];
   points = [];
+  candidates = [];
+  tolerances = [];
+  outages = [];
 }

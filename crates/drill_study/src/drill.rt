@@ -259,6 +259,9 @@ fn study_of(alloc: Global, number: u32) -> Result<Study, AllocError>
         filters,
         scans,
         points: Items::new(alloc),
+        candidates: Items::new(alloc),
+        tolerances: Items::new(alloc),
+        outages: Items::new(alloc),
     })
 }
 

@@ -1,5 +1,5 @@
 -- The scan of the worked studies is lawful beside any buses.
-use Rattle.std.proofs.Common.{◌<◌, pos, refl, List, length, arith, rules}
+use Rattle.std.proofs.Common.{◌<◌, pos, refl, List, length, arith}
 use Rattle.std.proofs.lemmas.Int.{ints}
 use Rattle.study_model.specs.Lawful.{IsLawfulScan}
 use Rattle.study_model.specs.Worked.{worked_scan}

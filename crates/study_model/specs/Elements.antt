@@ -1,5 +1,5 @@
 -- The elements of a study by their numbers, and all names.
-use Rattle.std.specs.Prelude.{ℕ, ◌-◌, ◌≤◌, List, [], ◌∷◌, ◌++◌, map, slice_get, Contains, IsSomeAnd}
+use Rattle.std.specs.Prelude.{ℕ, ◌-◌, ◌≤◌, List, [], ◌∷◌, ◌++◌, map, length, slice_get, Contains, IsSomeAnd}
 use Rattle.study_model.specs.declared.records.Source.{Source}
 use Rattle.study_model.specs.declared.records.Line.{Line}
 use Rattle.study_model.specs.declared.records.Transformer.{Transformer}
@@ -48,7 +48,11 @@ element_buses (of_filter e) = e.bus ∷ []
 abbrev pub Touches : Study → ℕ → ℕ → Type 0
 Touches study number bus = (1 ≤ number) × IsSomeAnd (slice_get (elements_of study) (number - 1)) (λ e. Contains (element_buses e) bus)
 
--- the names of all entries
+-- the number of an element
+abbrev pub IsElement : Study → ℕ → Type 0
+IsElement study number = (1 ≤ number) × (number ≤ length (elements_of study))
+
+-- the names of all entries that have one
 abbrev pub names_of : Study → List (List ℕ)
 names_of study = map (λ bus. bus.name) study.buses ++ map element_name (elements_of study)
     ++ map (λ scan. scan.name) study.scans ++ map (λ point. point.name) study.points

@@ -2,7 +2,7 @@
 use Rattle.std.specs.Prelude.{ℕ, List, codes, Option, Some, None}
 use Rattle.study_model.specs.declared.fault.Place.{Place}
 use Rattle.study_model.specs.declared.fault.StudyFault.{StudyFault}
-use Rattle.study_model.specs.declared.fault.StudyFault.TheVariants.{NotToml, VersionUnknown, MissingKey, UnknownKey, WrongKind, BareDecimal, BadDecimal, OutOfRange, BadName, DuplicateName, UnknownBus, TooMany, BadBand, TooFine, Floating, PhaseFloating, UnknownElement, NoMemory}
+use Rattle.study_model.specs.declared.fault.StudyFault.TheVariants.{NotToml, VersionUnknown, MissingKey, UnknownKey, WrongKind, BareDecimal, BadDecimal, OutOfRange, BadName, DuplicateName, UnknownBus, TooMany, BadBand, TooFine, Floating, PhaseFloating, UnknownElement, UnknownScan, NoMemory}
 
 -- A fault's number, which the want of memory lacks, its name and its place.
 pub record Printed : Type 0 where
@@ -33,6 +33,7 @@ printed_of (TooFine place) = row 14 (codes "TooFine") (Some place)
 printed_of (Floating place) = row 15 (codes "Floating") (Some place)
 printed_of (PhaseFloating place) = row 16 (codes "PhaseFloating") (Some place)
 printed_of (UnknownElement place) = row 18 (codes "UnknownElement") (Some place)
+printed_of (UnknownScan place) = row 19 (codes "UnknownScan") (Some place)
 printed_of NoMemory = record { number = None; name = codes "NoMemory"; place = None }
 
 -- the number

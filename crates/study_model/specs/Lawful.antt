@@ -1,13 +1,15 @@
 -- What a lawful study is, key by key.
-use Rattle.std.specs.Prelude.{◌≡◌, ◌≢◌, ◌⊎◌, ℕ, ℤ, pos, unsigned_abs, ◌<◌, ◌≤◌, ◌≤ℤ◌, ◌<ℤ◌, ◌-ℤ◌, ◌*ℤ◌, IsTrue, List, Option, Some, None, length, codes, slice_get, option_map, All, AllPairs}
+use Rattle.std.specs.Prelude.{◌≡◌, ◌≢◌, ◌⊎◌, ℕ, ℤ, pos, unsigned_abs, ◌-◌, ◌<◌, ◌≤◌, ◌≤ℤ◌, ◌<ℤ◌, ◌-ℤ◌, ◌*ℤ◌, IsTrue, List, Option, Some, None, map, length, codes, slice_get, option_map, All, AllPairs, IsSomeAnd}
 use Rattle.study_model.specs.NameText.{is_name}
 use Rattle.study_model.specs.Range.{IsIn}
 use Rattle.study_model.specs.Curve.{curve_points, curve_of, flat_points, IsLawfulCurve, Spans}
 use Rattle.study_model.specs.Rules.{AreNotBothZero, IsZeroSequence, HasZeroSequence, AreMutual, IsNeutral, IsPower, IsImpedance, IsElementPhase, IsScanned}
-use Rattle.study_model.specs.Elements.{Touches, names_of}
-use Rattle.study_model.specs.declared.limits.TheConstants.{MAX_BUSES, MAX_ELEMENTS, MAX_SCANS, MAX_POINTS, MAX_SECTIONS, MAX_WIDTHS}
+use Rattle.study_model.specs.Elements.{Touches, IsElement, names_of}
+use Rattle.study_model.specs.declared.limits.TheConstants.{MAX_BUSES, MAX_ELEMENTS, MAX_SCANS, MAX_POINTS, MAX_CANDIDATES, MAX_SIZES, MAX_TOLERANCES, MAX_PERMILLE, MAX_OUTAGES, MAX_SECTIONS, MAX_WIDTHS}
 use Rattle.study_model.specs.declared.range.TheConstants.Range.{ORDINARY, ABOVE_ZERO, BASE_MVA, HERTZ, ROOT3, BUS_KV, SKIN_K, SKIN_M, RESISTANCE_PERCENT, REACTANCE_PERCENT, RATIO, TUNED_ORDER, QUALITY, BAND, FINEST, LOCATE, AMPERES}
 use Rattle.study_model.specs.declared.words.StudyModel.{StudyModel}
+use Rattle.study_model.specs.declared.words.StudyModel.TheVariants as study_model
+use Rattle.study_model.specs.declared.words.Sequence.TheVariants as sequence
 use Rattle.study_model.specs.declared.curve.Curve.{Curve}
 use Rattle.study_model.specs.declared.records.Bus.{Bus}
 use Rattle.study_model.specs.declared.records.Source.{Source}
@@ -18,6 +20,9 @@ use Rattle.study_model.specs.declared.records.Bank.{Bank}
 use Rattle.study_model.specs.declared.records.Filter.{Filter}
 use Rattle.study_model.specs.declared.records.ScanItem.{ScanItem}
 use Rattle.study_model.specs.declared.records.Pcc.{Pcc}
+use Rattle.study_model.specs.declared.records.Candidate.{Candidate}
+use Rattle.study_model.specs.declared.records.Tolerance.{Tolerance}
+use Rattle.study_model.specs.declared.records.Outage.{Outage}
 use Rattle.study_model.specs.declared.records.Study.{Study}
 
 -- 1 to 32 bytes of a name
@@ -125,7 +130,39 @@ pub record IsLawfulPcc (study : Study) (point : Pcc) : Type 0 where
   pub isc : IsIn AMPERES point.isc
   pub il : IsIn AMPERES point.il
 
--- The header, then each section's count and entries, then the names, which differ over all sections.
+-- a scan of the positive network in the sequence model
+abbrev pub IsOfPositive : ScanItem → Type 0
+IsOfPositive scan = (scan.network ≡ sequence.Positive) × (scan.phase ≡ None)
+
+-- the number of such a scan, from 1
+abbrev pub IsPositiveScan : List ScanItem → ℕ → Type 0
+IsPositiveScan scans number = (1 ≤ number) × IsSomeAnd (slice_get scans (number - 1)) IsOfPositive
+
+-- a candidate: a scan of the positive network, and some sizes of a bank in MVAr
+pub record IsLawfulCandidate (study : Study) (candidate : Candidate) : Type 0 where
+  pub scan : IsPositiveScan study.scans candidate.scan
+  pub sizes_count : (1 ≤ length candidate.sizes) × (length candidate.sizes ≤ MAX_SIZES)
+  pub sizes : All (IsIn ABOVE_ZERO) candidate.sizes
+
+-- a tolerance: an element of a study of the sequence model, and thousandths
+pub record IsLawfulTolerance (study : Study) (tolerance : Tolerance) : Type 0 where
+  pub model : study.model ≡ study_model.Sequence
+  pub element : IsElement study tolerance.element
+  pub permille : (1 ≤ tolerance.permille) × (tolerance.permille ≤ MAX_PERMILLE)
+
+-- an outage: an element
+pub record IsLawfulOutage (study : Study) (outage : Outage) : Type 0 where
+  pub element : IsElement study outage.element
+
+-- the elements that have a tolerance
+abbrev pub tolerant_elements : Study → List ℕ
+tolerant_elements study = map (λ tolerance. tolerance.element) study.tolerances
+
+-- the elements that may be out of service
+abbrev pub outage_elements : Study → List ℕ
+outage_elements study = map (λ outage. outage.element) study.outages
+
+-- The header, then each section's count and entries, then the names, which differ over all sections. No two tolerances are of one element, and no two outages.
 pub record IsLawful (study : Study) : Type 0 where
   pub version : (study.version ≡ 1) ⊎ (study.version ≡ 2)
   pub mva : IsIn BASE_MVA study.mva
@@ -150,4 +187,12 @@ pub record IsLawful (study : Study) : Type 0 where
   pub scans : All (IsLawfulScan study.version study.model study.buses) study.scans
   pub points_count : length study.points ≤ MAX_POINTS
   pub points : All (IsLawfulPcc study) study.points
+  pub candidates_count : length study.candidates ≤ MAX_CANDIDATES
+  pub candidates : All (IsLawfulCandidate study) study.candidates
+  pub tolerances_count : length study.tolerances ≤ MAX_TOLERANCES
+  pub tolerances : All (IsLawfulTolerance study) study.tolerances
+  pub tolerances_differ : AllPairs ◌≢◌ (tolerant_elements study)
+  pub outages_count : length study.outages ≤ MAX_OUTAGES
+  pub outages : All (IsLawfulOutage study) study.outages
+  pub outages_differ : AllPairs ◌≢◌ (outage_elements study)
   pub names : AllPairs ◌≢◌ (names_of study)

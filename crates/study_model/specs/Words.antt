@@ -19,6 +19,9 @@ section_text section.Bank = codes "bank"
 section_text section.Filter = codes "filter"
 section_text section.Scan = codes "scan"
 section_text section.Pcc = codes "pcc"
+section_text section.Candidate = codes "candidate"
+section_text section.Tolerance = codes "tolerance"
+section_text section.Outage = codes "outage"
 
 -- each key as it is written, and a dash where there is none
 abbrev pub key_text : Key → List ℕ
@@ -70,3 +73,6 @@ key_text key.Locate = codes "locate"
 key_text key.Element = codes "element"
 key_text key.Isc = codes "isc"
 key_text key.Il = codes "il"
+key_text key.Scan = codes "scan"
+key_text key.Sizes = codes "sizes"
+key_text key.Permille = codes "permille"

@@ -16,6 +16,9 @@ use Rattle.study_model.specs.declared.records.Bank.{Bank}
 use Rattle.study_model.specs.declared.records.Filter.{Filter}
 use Rattle.study_model.specs.declared.records.ScanItem.{ScanItem}
 use Rattle.study_model.specs.declared.records.Pcc.{Pcc}
+use Rattle.study_model.specs.declared.records.Candidate.{Candidate}
+use Rattle.study_model.specs.declared.records.Tolerance.{Tolerance}
+use Rattle.study_model.specs.declared.records.Outage.{Outage}
 use Rattle.study_model.specs.declared.records.Study.{Study}
 
 -- 10 kV
@@ -48,6 +51,9 @@ worked_study to = record {
   filters = [];
   scans = worked_scan to ∷ [];
   points = [];
+  candidates = [];
+  tolerances = [];
+  outages = [];
 }
 
 -- a study of version 2: from order 1 to 10, a threshold from 2 ohms at order 1 to 20 ohms at an order in millionths
@@ -120,6 +126,18 @@ worked_filter = record { name = codes "X1"; bus = 2; kind = filter_kind.Single; 
 abbrev pub worked_point : ℕ → Pcc
 worked_point element = record { name = codes "P1"; bus = 1; element = element; isc = pos 6000000000; il = pos 200000000 }
 
+-- a bank of 4 or of half an MVAr at the bus of the scan of a number
+abbrev pub worked_candidate : ℕ → Candidate
+worked_candidate scan = record { scan = scan; sizes = pos 4000000 ∷ pos 500000 ∷ [] }
+
+-- 100 thousandths of the values of the element of a number
+abbrev pub worked_tolerance : ℕ → Tolerance
+worked_tolerance element = record { element = element; permille = 100 }
+
+-- the element of a number out of service
+abbrev pub worked_outage : ℕ → Outage
+worked_outage element = record { element = element }
+
 -- one element of each kind and two loads: the source is 1, the line 2, the transformer 3, the loads 4 and 5, the bank 6 and the filter 7
 abbrev pub worked_plant : ℕ → Study
 worked_plant element = record {
@@ -139,4 +157,15 @@ worked_plant element = record {
   filters = worked_filter ∷ [];
   scans = worked_scan (pos 10000000) ∷ [];
   points = worked_point element ∷ [];
+  candidates = worked_candidate 1 ∷ [];
+  tolerances = worked_tolerance 2 ∷ worked_tolerance 1 ∷ [];
+  outages = worked_outage 6 ∷ worked_outage 7 ∷ [];
+}
+
+-- the plant with a point at the transformer, a candidate at the scan of a number, tolerances of an element and of the source, and outages of an element and of the filter
+abbrev pub worked_variants : ℕ → ℕ → ℕ → Study
+worked_variants scan tolerant out = record (worked_plant 3) {
+  candidates = worked_candidate scan ∷ [];
+  tolerances = worked_tolerance tolerant ∷ worked_tolerance 1 ∷ [];
+  outages = worked_outage out ∷ worked_outage 7 ∷ [];
 }

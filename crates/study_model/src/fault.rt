@@ -18,6 +18,9 @@ pub enum Section {
     Filter,
     Scan,
     Pcc,
+    Candidate,
+    Tolerance,
+    Outage,
 }
 
 impl Section {
@@ -42,6 +45,9 @@ impl Section {
             Section::Filter => "filter",
             Section::Scan => "scan",
             Section::Pcc => "pcc",
+            Section::Candidate => "candidate",
+            Section::Tolerance => "tolerance",
+            Section::Outage => "outage",
         }
     }
 }
@@ -97,6 +103,9 @@ pub enum Key {
     Element,
     Isc,
     Il,
+    Scan,
+    Sizes,
+    Permille,
 }
 
 impl Key {
@@ -157,6 +166,9 @@ impl Key {
             Key::Element => "element",
             Key::Isc => "isc",
             Key::Il => "il",
+            Key::Scan => "scan",
+            Key::Sizes => "sizes",
+            Key::Permille => "permille",
         }
     }
 }
@@ -220,9 +232,12 @@ pub enum StudyFault {
     /// A bus of a phase network has no path to ground in the zero network.
     #[error("a bus of a phase network has no path to ground in the zero network")]
     PhaseFloating(Place),
-    /// No element of the name touches the bus.
-    #[error("no element of the name touches the bus")]
+    /// No element has the name, or at a point none of the name touches the bus.
+    #[error("no element of the name is there")]
     UnknownElement(Place),
+    /// No scan has the name.
+    #[error("no scan has the name")]
+    UnknownScan(Place),
     /// Memory ran out.
     #[error("memory ran out")]
     NoMemory,
@@ -276,6 +291,7 @@ impl StudyFault {
             StudyFault::Floating(place) => row(15, "Floating", Some(place)),
             StudyFault::PhaseFloating(place) => row(16, "PhaseFloating", Some(place)),
             StudyFault::UnknownElement(place) => row(18, "UnknownElement", Some(place)),
+            StudyFault::UnknownScan(place) => row(19, "UnknownScan", Some(place)),
             StudyFault::NoMemory => Printed {
                 number: None,
                 name: "NoMemory",

@@ -128,6 +128,26 @@ pub struct Pcc {
     pub il: Decimal,
 }
 
+/// A bank to be added at the bus of a scan, by the scan's number from 1: its sizes in MVAr, in the order in which they are tried.
+#[derive(Drop)]
+pub struct Candidate {
+    pub scan: u32,
+    pub sizes: Items<Decimal>,
+}
+
+/// How far the values of an element may lie from those that are written, in thousandths: an element by its number from 1.
+#[derive(Clone, Copy)]
+pub struct Tolerance {
+    pub element: u32,
+    pub permille: u32,
+}
+
+/// An element that may be out of service, by its number from 1.
+#[derive(Clone, Copy)]
+pub struct Outage {
+    pub element: u32,
+}
+
 /// A whole study: its base MVA and frequency in Hz, how it is computed, and its sections.
 #[derive(Drop)]
 pub struct Study {
@@ -147,4 +167,7 @@ pub struct Study {
     pub filters: Items<Filter>,
     pub scans: Items<ScanItem>,
     pub points: Items<Pcc>,
+    pub candidates: Items<Candidate>,
+    pub tolerances: Items<Tolerance>,
+    pub outages: Items<Outage>,
 }

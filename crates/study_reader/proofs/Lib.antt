@@ -7,5 +7,7 @@ pub mod Sound
 pub mod CurveSteps
 pub mod SoundCurves
 pub mod SoundEntries
+pub mod SoundArrays
+pub mod SoundVariants
 pub mod Parts
 pub mod Refusals

@@ -1,19 +1,17 @@
 -- A study whose checks find no fault is lawful.
 use Rattle.study_model.specs.ValueWords.{study_model_of, method_of}
-use Rattle.std.proofs.Common.{◌≡◌, ◌≢◌, ◌≤◌, ◌+◌, ◌-◌, ◌++◌, ◌⊎◌, ⊎_elim, ℕ, pos, zero, suc, map, true, false, nat_le, List, [], ◌∷◌, Option, Some, None, length, refl, ap, arith, subst, sym, All, AllPairs, Contains, IsSomeAnd, slice_get, append_assoc}
-use Rattle.std.proofs.lemmas.Bool.Decides.{nat_tests}
+use Rattle.std.proofs.Common.{◌≡◌, ◌≢◌, ◌≤◌, ◌+◌, ◌-◌, ◌++◌, ◌⊎◌, ⊎_elim, ℕ, pos, zero, suc, map, false, List, [], ◌∷◌, Option, Some, None, length, refl, ap, arith, subst, sym, All, AllPairs, Contains, IsSomeAnd, slice_get, append_assoc}
 use Rattle.std.proofs.lemmas.Int.{ints}
-use Rattle.std.proofs.lemmas.List.{append-nil}
+use Rattle.std.proofs.lemmas.List.{append-nil, length-map}
 use Rattle.std.proofs.lemmas.List.Elements.{All-cons, All-nil}
-use Rattle.toml.specs.Data.{Data, Items, no_items, item, string, integer, float, boolean, datetime, array, table}
-use Rattle.study_model.specs.Elements.{StudyElement, of_source, of_line, of_transformer, of_load, of_bank, of_filter, elements_of, element_buses}
-use Rattle.study_model.specs.Lawful.{IsLawful, IsLawfulBus, IsLawfulSource, IsLawfulLine, IsLawfulTransformer, IsLawfulLoad, IsLawfulBank, IsLawfulFilter, IsLawfulScan, IsLawfulPcc}
+use Rattle.toml.specs.Data.{Data, Items, no_items, item}
+use Rattle.study_model.specs.Elements.{StudyElement, of_source, of_line, of_transformer, of_load, of_bank, of_filter, elements_of, element_buses, IsElement}
+use Rattle.study_model.specs.Lawful.{IsLawful, IsLawfulBus, IsLawfulSource, IsLawfulLine, IsLawfulTransformer, IsLawfulLoad, IsLawfulBank, IsLawfulFilter, IsLawfulScan, IsLawfulPcc, IsLawfulCandidate, IsLawfulTolerance, IsLawfulOutage}
 use Rattle.study_model.specs.declared.fault.Place.{Place}
 use Rattle.study_model.specs.declared.fault.Section.{Section}
 use Rattle.study_model.specs.declared.fault.Section.TheVariants as section
 use Rattle.study_model.specs.declared.fault.Key.TheVariants as key
 use Rattle.study_model.specs.declared.fault.StudyFault.{StudyFault}
-use Rattle.study_model.specs.declared.fault.StudyFault.TheVariants.{MissingKey, TooMany}
 use Rattle.study_model.specs.declared.limits.TheConstants.{MAX_ELEMENTS, MAX_SCANS, MAX_POINTS}
 use Rattle.study_model.specs.declared.range.TheConstants.Range.{BASE_MVA, HERTZ, ROOT3}
 use Rattle.study_model.specs.declared.records.Bus.{Bus}
@@ -25,44 +23,32 @@ use Rattle.study_model.specs.declared.records.Bank.{Bank}
 use Rattle.study_model.specs.declared.records.Filter.{Filter}
 use Rattle.study_model.specs.declared.records.ScanItem.{ScanItem}
 use Rattle.study_model.specs.declared.records.Pcc.{Pcc}
+use Rattle.study_model.specs.declared.records.Candidate.{Candidate}
+use Rattle.study_model.specs.declared.records.Tolerance.{Tolerance}
+use Rattle.study_model.specs.declared.records.Outage.{Outage}
 use Rattle.study_model.specs.declared.records.Study.{Study}
 use Rattle.study_reader.specs.Branches.{line_entry_fault, line_entry, transformer_entry_fault, transformer_entry}
-use Rattle.study_reader.specs.Checks.{first_fault, unless, place_of, name_value, at, decimal_fault, default_fault, version_fault, scale_fault, word_fault, keys_fault}
+use Rattle.study_reader.specs.Checks.{place_of, name_value, at, decimal_fault, default_fault, version_fault, scale_fault, word_fault, keys_fault}
 use Rattle.study_reader.specs.Entries.{bus_entry_fault, bus_entry, source_entry_fault, source_entry, bank_entry_fault, bank_entry, filter_entry_fault, filter_entry, scan_entry_fault, scan_entry}
 use Rattle.study_reader.proofs.EntryNames.{bus_named, source_named, line_named, transformer_named, load_named, bank_named, filter_named, scan_named, point_named}
 use Rattle.study_reader.specs.Header.{header_fault, header_value, study_section_fault, study_section_value, study_keys}
-use Rattle.study_reader.specs.Lawful.{IsFresh, Ends, IsLawfulHeader, IsLawfulPoint, IsLawfulPlant, names_in}
+use Rattle.study_reader.specs.Lawful.{IsFresh, Ends, IsLawfulHeader, IsLawfulPoint, IsLawfulPlant, IsNumbered, IsReadCandidate, IsReadTolerance, IsReadOutage, names_in}
 use Rattle.study_reader.specs.Loads.{load_entry_fault, load_entry}
 use Rattle.study_reader.specs.Points.{point_entry_fault, point_entry}
-use Rattle.study_reader.specs.Sections.{section_in, count_items, array_fault, items_in, entries_fault, entries_of, section_fault, section_value, section_names}
-use Rattle.study_reader.specs.StudyOf.{at_most, some_buses, before_buses, context_of, plant_fault, plant_names, plant_value, ends_of, plant_elements, with_elements, sections_fault, study_value}
+use Rattle.study_reader.specs.Sections.{section_in, array_fault, items_in, entries_fault, entries_of, section_fault, section_value, section_names}
+use Rattle.study_reader.specs.StudyOf.{at_most, some_buses, before_buses, context_of, plant_fault, plant_names, plant_value, ends_of, plant_elements, with_elements, targets_of, variants_fault, variants_value, sections_fault, study_value}
 use Rattle.study_reader.specs.declared.arrays.Occurrence.{Occurrence}
 use Rattle.study_reader.specs.declared.context.Context.{Context}
+use Rattle.study_reader.specs.declared.reference.Targets.{Targets}
 use Rattle.study_reader.specs.declared.study.Plant.{Plant}
 use Rattle.study_reader.proofs.Fresh.{distinct_push}
 use Rattle.study_reader.proofs.PlantElements.{named}
-use Rattle.study_reader.proofs.Sound.{no_fault, passed, decimal_sound, default_sound, version_sound, scale_sound}
+use Rattle.study_reader.proofs.SoundArrays.{array_sound, items_counted}
+use Rattle.study_reader.proofs.Sound.{no_fault, decimal_sound, default_sound, version_sound, scale_sound}
+use Rattle.study_reader.proofs.SoundVariants.{variants_sound}
 use Rattle.study_reader.proofs.SoundEntries.{bus_lawful, source_lawful, line_lawful, transformer_lawful, load_lawful, bank_lawful, filter_lawful, scan_lawful, point_lawful}
 
 -- ---- a section
-at_most_of : (m n : ℕ) → nat_le m n ≡ true → m ≤ n
-at_most_of m n e = grind (arith, nat_tests)
-
-array_sound : (o : Occurrence) (v : Option Data) → array_fault o v ≡ None → (count_items (items_in v) ≤ o.most) × (o.optional ≡ false → o.least ≤ count_items (items_in v))
-array_sound o None e =
-    let optional = passed o.optional (MissingKey (place_of o.section 0 key.Nothing)) e in (omega arith, λ needed. absurd (cc (optional, needed)))
-array_sound o (Some (array ds)) e =
-    let place = place_of o.section 0 key.Nothing in
-    let n = count_items ds in
-    let checks = no_fault (unless (nat_le o.least n) (MissingKey place) ∷ unless (nat_le n o.most) (TooMany place) ∷ []) e in
-    (at_most_of n o.most (passed (nat_le n o.most) (TooMany place) (checks 1)), λ needed. at_most_of o.least n (passed (nat_le o.least n) (MissingKey place) (checks 0)))
-array_sound o (Some (string text)) e = absurd (cc)
-array_sound o (Some (integer n)) e = absurd (cc)
-array_sound o (Some (float x)) e = absurd (cc)
-array_sound o (Some (boolean b)) e = absurd (cc)
-array_sound o (Some (datetime t)) e = absurd (cc)
-array_sound o (Some (table ms)) e = absurd (cc)
-
 entries_sound : {A : Type 0} (fault : Context → List (List ℕ) → Place → Data → Option StudyFault) (value : Data → A) (lawful : A → Type 0) (context : Context) (at : Section)
     → ((earlier : List (List ℕ)) (place : Place) (d : Data) → fault context earlier place d ≡ None → lawful (value d) × IsFresh earlier (name_value d))
     → (earlier : List (List ℕ)) (n : ℕ) (items : Items) → entries_fault fault context at earlier n items ≡ None → AllPairs ◌≢◌ earlier
@@ -75,10 +61,6 @@ entries_sound fault value lawful context at sound earlier n (item d ds) e distin
     let entry = sound earlier place d (checks 0) in
     let more = entries_sound fault value lawful context at sound names (n + 1) ds (checks 1) (distinct_push earlier (name_value d) distinct entry.1) in
     (All-cons lawful (value d) (entries_of value ds) entry.0 more.0, subst (λ (ns : List (List ℕ)). AllPairs ◌≢◌ ns) (append_assoc earlier (name_value d ∷ []) (entries_of name_value ds)) more.1)
-
-items_counted : {A : Type 0} (value : Data → A) (items : Items) → length (entries_of value items) ≡ count_items items
-items_counted value no_items = refl
-items_counted value (item d ds) = omega (arith, items_counted value ds)
 
 entries_named : {A : Type 0} (value : Data → A) (name_in : A → List ℕ) → ((d : Data) → name_in (value d) ≡ name_value d) → (items : Items)
     → entries_of name_value items ≡ map name_in (entries_of value items)
@@ -199,11 +181,27 @@ touches study point q = record {
   il = q.il;
 }
 
+-- what the candidates, tolerances and outages of a study may name
+abbrev in_study : Study → Targets
+in_study study = record { model = study.model; elements = map ends_of (elements_of study); scans = study.scans }
+
+of_candidate : (study : Study) (candidate : Candidate) → IsReadCandidate (in_study study) candidate → IsLawfulCandidate study candidate
+of_candidate study candidate q = record { scan = q.scan; sizes_count = q.sizes_count; sizes = q.sizes }
+
+numbered : (study : Study) (number : ℕ) → IsNumbered (map ends_of (elements_of study)) number → IsElement study number
+numbered study number q = let most = q.most in (q.least, omega (arith, most, length-map (elements_of study) ends_of))
+
+of_tolerance : (study : Study) (tolerance : Tolerance) → IsReadTolerance (in_study study) tolerance → IsLawfulTolerance study tolerance
+of_tolerance study tolerance q = record { model = q.model; element = numbered study tolerance.element q.element; permille = q.permille }
+
+of_outage : (study : Study) (outage : Outage) → IsReadOutage (in_study study) outage → IsLawfulOutage study outage
+of_outage study outage q = record { element = numbered study outage.element q.element }
+
 no_names : AllPairs {X = List ℕ} ◌≢◌ []
 no_names = λ i j d lt short. absurd (omega arith)
 
 lawful_study : (document : Data) → sections_fault document ≡ None → IsLawful (study_value document)
-unfolding sections_fault study_value context_of with_elements plant_elements
+unfolding sections_fault study_value context_of with_elements targets_of variants_value plant_elements
 lawful_study document e =
     let before = before_buses document in
     let context = context_of document in
@@ -211,12 +209,13 @@ lawful_study document e =
     let whole = with_elements context plant in
     let bus_names = section_names section.Bus document in
     let all_names = plant_names bus_names document in
-    let checks = no_fault (study_section_fault (section_in section.Study document) ∷ section_fault bus_entry_fault some_buses (before_buses document) [] document ∷ plant_fault (context_of document) bus_names document ∷ section_fault scan_entry_fault (at_most section.Scan MAX_SCANS) (context_of document) (plant_names bus_names document) document ∷ section_fault point_entry_fault (at_most section.Pcc MAX_POINTS) (with_elements (context_of document) (plant_value (context_of document) document)) (plant_names bus_names document ++ section_names section.Scan document) document ∷ []) e in
+    let checks = no_fault (study_section_fault (section_in section.Study document) ∷ section_fault bus_entry_fault some_buses (before_buses document) [] document ∷ plant_fault (context_of document) bus_names document ∷ section_fault scan_entry_fault (at_most section.Scan MAX_SCANS) (context_of document) (plant_names bus_names document) document ∷ section_fault point_entry_fault (at_most section.Pcc MAX_POINTS) (with_elements (context_of document) (plant_value (context_of document) document)) (plant_names bus_names document ++ section_names section.Scan document) document ∷ variants_fault (targets_of document) document ∷ []) e in
     let header = header_sound (section_in section.Study document) (checks 0) in
     let buses = section_sound bus_entry_fault (bus_entry before) IsLawfulBus (λ (s : Bus). s.name) some_buses before (bus_lawful before) (bus_named before) [] document no_names (checks 1) in
     let p = plant_sound context bus_names document buses.distinct (checks 2) in
     let scans = section_sound scan_entry_fault (scan_entry context) (IsLawfulScan context.version context.model context.buses) (λ (s : ScanItem). s.name) (at_most section.Scan MAX_SCANS) context (scan_lawful context header.version) (scan_named context) all_names document p.distinct (checks 3) in
     let points = section_sound point_entry_fault (point_entry whole) (IsLawfulPoint whole) (λ (s : Pcc). s.name) (at_most section.Pcc MAX_POINTS) whole (point_lawful whole) (point_named whole) (all_names ++ section_names section.Scan document) document scans.distinct (checks 4) in
+    let variants = variants_sound (targets_of document) document (checks 5) in
     let of_buses : bus_names ≡ map (λ (s : Bus). s.name) (section_value (bus_entry before) section.Bus document) = buses.named in
     record {
       version = header.version;
@@ -242,6 +241,14 @@ lawful_study document e =
       scans = scans.all;
       points_count = points.few;
       points = λ k point lt. touches (study_value document) _ (points.all k point lt);
+      candidates_count = variants.candidates_count;
+      candidates = λ k candidate lt. of_candidate (study_value document) _ (variants.candidates k candidate lt);
+      tolerances_count = variants.tolerances_count;
+      tolerances = λ k tolerance lt. of_tolerance (study_value document) _ (variants.tolerances k tolerance lt);
+      tolerances_differ = variants.tolerances_differ;
+      outages_count = variants.outages_count;
+      outages = λ k outage lt. of_outage (study_value document) _ (variants.outages k outage lt);
+      outages_differ = variants.outages_differ;
       names = subst (λ (ns : List (List ℕ)). AllPairs ◌≢◌ ns) (rw (points.named, scans.named, p.named, of_buses) refl) points.distinct;
     }
 

@@ -176,14 +176,15 @@ pub version_sound : (place : Place) (entry : Data) → version_fault place entry
 unfolding version_fault version_value
 version_sound place entry e = version_either (key_of place key.Version) (at key.Version entry) e
 
-counted : (n : ℤ) → pos 1 ≤ℤ n → n ≤ℤ pos MAX_SECTIONS → (1 ≤ unsigned_abs n) × (unsigned_abs n ≤ MAX_SECTIONS)
-counted n least most = (omega (arith, ints, least, most), omega (arith, ints, least, most))
+-- a whole number between 1 and a limit, as a count
+pub counted : (n : ℤ) (limit : ℕ) → pos 1 ≤ℤ n → n ≤ℤ pos limit → (1 ≤ unsigned_abs n) × (unsigned_abs n ≤ limit)
+counted n limit least most = (omega (arith, ints, least, most), omega (arith, ints, least, most))
 
 sections_within : (place : Place) (o : Option Data) → sections_found place o ≡ None → (1 ≤ whole_in 1 o) × (whole_in 1 o ≤ MAX_SECTIONS)
 sections_within place None e = (omega arith, omega arith)
 sections_within place (Some (integer n)) e =
     let both = and_parts (int_le (pos 1) n) (int_le n (pos MAX_SECTIONS)) (passed (int_le (pos 1) n && int_le n (pos MAX_SECTIONS)) (OutOfRange place) e) in
-    counted n (at_most_of (pos 1) n both.0) (at_most_of n (pos MAX_SECTIONS) both.1)
+    counted n MAX_SECTIONS (at_most_of (pos 1) n both.0) (at_most_of n (pos MAX_SECTIONS) both.1)
 sections_within place (Some (string text)) e = absurd (cc)
 sections_within place (Some (float x)) e = absurd (cc)
 sections_within place (Some (boolean b)) e = absurd (cc)
@@ -216,7 +217,7 @@ unfolding word_fault word_value
 word_sound place key needed word entry e = word_there (key_of place key) needed word (at key entry) e
 
 -- ---- names
-branch : (test : Bool) (check : Option StudyFault) (fault : StudyFault) → (if test then check else Some fault) ≡ None → (test ≡ true) × (check ≡ None)
+pub branch : (test : Bool) (check : Option StudyFault) (fault : StudyFault) → (if test then check else Some fault) ≡ None → (test ≡ true) × (check ≡ None)
 branch true check fault e = (refl, e)
 branch false check fault e = absurd (cc)
 

@@ -7,5 +7,7 @@ pub mod Entries
 pub mod Loads
 pub mod Branches
 pub mod Points
+pub mod References
+pub mod Variants
 pub mod Lawful
 pub mod StudyOf

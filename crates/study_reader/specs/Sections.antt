@@ -25,7 +25,7 @@ are_sections sections (member name value rest) = is_section sections name && are
 
 -- the sections that a study may have
 abbrev pub all_sections : List Section
-all_sections = section.Study ∷ section.Bus ∷ section.Source ∷ section.Line ∷ section.Transformer ∷ section.Load ∷ section.Bank ∷ section.Filter ∷ section.Scan ∷ section.Pcc ∷ []
+all_sections = section.Study ∷ section.Bus ∷ section.Source ∷ section.Line ∷ section.Transformer ∷ section.Load ∷ section.Bank ∷ section.Filter ∷ section.Scan ∷ section.Pcc ∷ section.Candidate ∷ section.Tolerance ∷ section.Outage ∷ []
 
 -- a document has no section that isn't one of them
 unfoldable pub top_fault : Members → Option StudyFault

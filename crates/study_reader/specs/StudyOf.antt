@@ -4,7 +4,7 @@ use Rattle.std.specs.Str.{IsUtf8}
 use Rattle.toml.specs.Data.{Data, Members, table}
 use Rattle.toml.specs.Parse.{parse_document}
 use Rattle.study_model.specs.Elements.{StudyElement, of_source, of_line, of_transformer, of_load, of_bank, of_filter, elements_in}
-use Rattle.study_model.specs.declared.limits.TheConstants.{MAX_BUSES, MAX_ELEMENTS, MAX_SCANS, MAX_POINTS}
+use Rattle.study_model.specs.declared.limits.TheConstants.{MAX_BUSES, MAX_ELEMENTS, MAX_SCANS, MAX_POINTS, MAX_CANDIDATES, MAX_TOLERANCES, MAX_OUTAGES}
 use Rattle.study_model.specs.declared.fault.Section.{Section}
 use Rattle.study_model.specs.declared.fault.Section.TheVariants as section
 use Rattle.study_model.specs.declared.fault.StudyFault.{StudyFault}
@@ -17,10 +17,14 @@ use Rattle.study_reader.specs.Entries.{bus_entry_fault, bus_entry, source_entry_
 use Rattle.study_reader.specs.Branches.{line_entry_fault, line_entry, transformer_entry_fault, transformer_entry}
 use Rattle.study_reader.specs.Loads.{load_entry_fault, load_entry}
 use Rattle.study_reader.specs.Points.{point_entry_fault, point_entry}
+use Rattle.study_reader.specs.References.{reference_section_fault}
+use Rattle.study_reader.specs.Variants.{candidate_entry_fault, candidate_entry, tolerance_entry_fault, tolerance_entry, outage_entry_fault, outage_entry}
 use Rattle.study_reader.specs.declared.arrays.Occurrence.{Occurrence}
 use Rattle.study_reader.specs.declared.context.Context.{Context}
 use Rattle.study_reader.specs.declared.context.Element.{Element}
+use Rattle.study_reader.specs.declared.reference.Targets.{Targets}
 use Rattle.study_reader.specs.declared.study.Plant.{Plant}
+use Rattle.study_reader.specs.declared.variants.Variants.{Variants}
 
 -- a section that may be absent, of at most so many entries
 abbrev pub at_most : Section → ℕ → Occurrence
@@ -90,6 +94,28 @@ plant_elements plant = map ends_of (elements_in plant.sources plant.lines plant.
 unfoldable pub with_elements : Context → Plant → Context
 with_elements context plant = record { version = context.version; model = context.model; buses = context.buses; elements = plant_elements plant }
 
+-- the elements and the scans that the sections after the points may refer to
+unfoldable pub targets_of : Data → Targets
+targets_of document = let context = context_of document in record {
+  model = context.model;
+  elements = plant_elements (plant_value context document);
+  scans = section_value (scan_entry context) section.Scan document;
+}
+
+-- the checks of candidates, tolerances and outages
+unfoldable pub variants_fault : Targets → Data → Option StudyFault
+variants_fault targets document = first_fault (
+    reference_section_fault candidate_entry_fault candidate_entry (at_most section.Candidate MAX_CANDIDATES) targets document ∷
+    reference_section_fault tolerance_entry_fault tolerance_entry (at_most section.Tolerance MAX_TOLERANCES) targets document ∷
+    reference_section_fault outage_entry_fault outage_entry (at_most section.Outage MAX_OUTAGES) targets document ∷ [])
+
+unfoldable pub variants_value : Targets → Data → Variants
+variants_value targets document = record {
+  candidates = section_value (candidate_entry targets) section.Candidate document;
+  tolerances = section_value (tolerance_entry targets) section.Tolerance document;
+  outages = section_value (outage_entry targets) section.Outage document;
+}
+
 -- the checks of the sections in order
 unfoldable pub sections_fault : Data → Option StudyFault
 sections_fault document =
@@ -100,14 +126,16 @@ sections_fault document =
     plant_fault (context_of document) buses document ∷
     section_fault scan_entry_fault (at_most section.Scan MAX_SCANS) (context_of document) (plant_names buses document) document ∷
     section_fault point_entry_fault (at_most section.Pcc MAX_POINTS) (with_elements (context_of document) (plant_value (context_of document) document))
-    (plant_names buses document ++ section_names section.Scan document) document ∷ [])
+    (plant_names buses document ++ section_names section.Scan document) document ∷
+    variants_fault (targets_of document) document ∷ [])
 
 -- the study of a document without a fault
 unfoldable pub study_value : Data → Study
 study_value document =
     let header = study_section_value (section_in section.Study document) in
     let context = context_of document in
-    let plant = plant_value context document in record {
+    let plant = plant_value context document in
+    let variants = variants_value (targets_of document) document in record {
       version = header.version;
       mva = header.mva;
       hz = header.hz;
@@ -124,6 +152,9 @@ study_value document =
       filters = plant.filters;
       scans = section_value (scan_entry context) section.Scan document;
       points = section_value (point_entry (with_elements context plant)) section.Pcc document;
+      candidates = variants.candidates;
+      tolerances = variants.tolerances;
+      outages = variants.outages;
     }
 
 -- all checks of a document: its sections' words, and its sections in order

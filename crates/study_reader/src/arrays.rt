@@ -3,6 +3,7 @@ ghost use Rattle.std.specs.Prelude.{◌≡◌, ◌≤◌, Some, length, option_m
 ghost use Rattle.toml.specs.View.{view, items_view, table_view};
 ghost use Rattle.study_reader.specs.Checks.{Reads, ReadsBy, place_of};
 ghost use Rattle.study_reader.specs.Sections.{is_section, are_sections, top_fault, section_in, array_check, array_fault, items_in, count_fault, count_items};
+ghost use Rattle.study_reader.specs.StudyOf.{at_most};
 ghost use Rattle.study_model.specs.declared.fault.Key.TheVariants.{Nothing};
 
 use study_model::{Key, Place, Section, StudyFault};
@@ -15,6 +16,18 @@ pub(crate) struct Occurrence {
     pub(crate) optional: bool,
     pub(crate) least: usize,
     pub(crate) most: usize,
+}
+
+/// A section that may be absent, of at most so many entries.
+pub(crate) fn at_most(section: Section, most: u32) -> Occurrence
+    ensures { result ≡ at_most section most }
+{
+    Occurrence {
+        section,
+        optional: true,
+        least: 0,
+        most: most as usize,
+    }
 }
 
 /// The value at the word of a section.
@@ -63,6 +76,9 @@ pub(crate) fn known_sections(table: &Table) -> Result<(), StudyFault>
         Section::Filter,
         Section::Scan,
         Section::Pcc,
+        Section::Candidate,
+        Section::Tolerance,
+        Section::Outage,
     ];
     if are_sections(&sections, table) {
         Ok(())

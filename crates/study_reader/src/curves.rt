@@ -34,7 +34,12 @@ fn millionths_in(
 }
 
 /// A length from `least` to `most`.
-fn has_length(len: usize, place: Place, least: usize, most: usize) -> Result<(), StudyFault>
+pub(crate) fn has_length(
+    len: usize,
+    place: Place,
+    least: usize,
+    most: usize,
+) -> Result<(), StudyFault>
     ensures read { Reads result (length_fault place least most len) tt }
     ensures few { OnOk result (len ≤ most) }
 {

@@ -3,6 +3,7 @@
 
 mod arrays;
 mod branches;
+mod candidates;
 mod context;
 mod curves;
 mod decimal_array;
@@ -15,7 +16,10 @@ mod header;
 mod keys;
 mod loads;
 mod points;
+mod reference;
 mod study;
+mod tolerances;
+mod variants;
 mod words;
 
 pub use study::read_study;

@@ -7,14 +7,16 @@ ghost use Rattle.study_model.specs.declared.fault.StudyFault.TheVariants.{NoMemo
 ghost use Rattle.study_model.specs.Lawful.{IsLawful};
 ghost use Rattle.study_reader.specs.Checks.{ReadsInMemory, first_fault, name_value};
 ghost use Rattle.study_reader.specs.Sections.{entries_fault, entries_of, section_fault, section_value, section_names};
-ghost use Rattle.study_reader.specs.StudyOf.{at_most, some_buses, plant_fault, plant_names, plant_value, with_elements, plant_elements, sections_fault, study_fault, study_value, IsStudy, Refused};
+ghost use Rattle.study_reader.specs.StudyOf.{some_buses, plant_fault, plant_names, plant_value, with_elements, plant_elements, sections_fault, study_fault, study_value, IsStudy, Refused};
 ghost use Rattle.study_model.specs.declared.limits.TheConstants.{MAX_NAMES, MAX_ALL_ELEMENTS};
 
-use crate::arrays::{Occurrence, array, known_sections};
+use crate::arrays::{Occurrence, array, at_most, known_sections};
 use crate::context::Context;
 use crate::elements::elements_of;
 use crate::entry::Entry;
 use crate::header::study_section;
+use crate::reference::Targets;
+use crate::variants::variants_of;
 use sqlite_items::Items;
 use std::alloc::Global;
 use study_model::{
@@ -96,18 +98,6 @@ fn section_entries<E: Entry>(
     entries::<E>(alloc, values, occurrence.section, context, names)
 }
 
-/// A section that may be absent, of at most so many entries.
-fn at_most(section: Section, most: u32) -> Occurrence
-    ensures { result ≡ at_most section most }
-{
-    Occurrence {
-        section,
-        optional: true,
-        least: 0,
-        most: most as usize,
-    }
-}
-
 /// The section of buses, which has to be there.
 fn some_buses() -> Occurrence
     ensures { result ≡ some_buses }
@@ -187,7 +177,7 @@ fn with_elements(alloc: Global, context: Context, plant: &Plant) -> Result<Conte
 }
 
 /// The study of a document of these sections, or its first fault.
-#[tactic(auto, unfolding(crate::specs::StudyOf::context_of, crate::specs::StudyOf::sections_fault, crate::specs::StudyOf::study_value))]
+#[tactic(auto, unfolding(crate::specs::StudyOf::context_of, crate::specs::StudyOf::targets_of, crate::specs::StudyOf::sections_fault, crate::specs::StudyOf::study_value))]
 fn study_in(alloc: Global, document: &Value) -> Result<Study, StudyFault>
     ensures read { ReadsInMemory result (sections_fault (view document.now)) (study_value (view document.now)) }
 {
@@ -212,6 +202,12 @@ fn study_in(alloc: Global, document: &Value) -> Result<Study, StudyFault>
     let context = with_elements(alloc, context, &plant)?;
     let at = at_most(Section::Pcc, MAX_POINTS);
     let points = section_entries::<Pcc>(alloc, document, at, &context, &mut names)?;
+    let targets = Targets {
+        model: header.model,
+        elements: context.elements,
+        scans,
+    };
+    let variants = variants_of(alloc, document, &targets)?;
     Ok(Study {
         version: header.version,
         mva: header.mva,
@@ -227,8 +223,11 @@ fn study_in(alloc: Global, document: &Value) -> Result<Study, StudyFault>
         loads: plant.loads,
         banks: plant.banks,
         filters: plant.filters,
-        scans,
+        scans: targets.scans,
         points,
+        candidates: variants.candidates,
+        tolerances: variants.tolerances,
+        outages: variants.outages,
     })
 }
 

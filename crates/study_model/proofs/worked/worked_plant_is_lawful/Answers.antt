@@ -47,5 +47,13 @@ returns-clause-lawful c = record {
   scans = All-cons (IsLawfulScan 1 study_model.Sequence (worked_plant 3).buses) (worked_scan (pos 10000000)) [] (scan_lawful (worked_plant 3).buses (omega arith)) (All-nil (IsLawfulScan 1 study_model.Sequence (worked_plant 3).buses));
   points_count = search rules;
   points = search rules;
+  candidates_count = search rules;
+  candidates = search rules;
+  tolerances_count = search rules;
+  tolerances = search rules;
+  tolerances_differ = search rules;
+  outages_count = search rules;
+  outages = search rules;
+  outages_differ = search rules;
   names = search rules;
 }
