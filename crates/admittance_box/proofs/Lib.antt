@@ -3,7 +3,6 @@ pub mod CurrentLoops
 pub mod FilledMatrices
 pub mod FirstTwo
 pub mod GroupPairs
-pub mod Groups
 pub mod HeldCouplings
 pub mod HeldCurrents
 pub mod HeldEntries

@@ -67,6 +67,7 @@ pub record Drops : Type 0 where
 abbrev pub live_drop : ℕ → List ℕ → List Rectangle → Branch → Branch → Option Rectangle
 live_drop s ordering volts a b = if has_place ordering a.taps then drop_between s ordering volts a.taps b.taps else Some nought_rectangle
 
+-- so for each branch of a group, from one network to the other
 abbrev pub group_drops : ℕ → List ℕ → List Rectangle → Branch → Branch → Branch → Branch → Branch → Branch → Option Drops
 group_drops s ordering volts a b c a' b' c' = do
   first ← live_drop s ordering volts a a'

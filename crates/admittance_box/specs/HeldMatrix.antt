@@ -1,11 +1,10 @@
 -- What the matrix of a box says of exact networks.
 use Rattle.std.specs.Prelude.{◌≡◌, ℕ, List, Ok}
-use Rattle.std.specs.List.{AllByRecursion}
 use Rattle.exact_algebra.specs.Complex.{Complex}
 use Rattle.complex_interval.specs.Rectangles.{Rectangle, EnclosesComplex}
 use Rattle.network_theory.specs.Order.{Order, IsOrder}
 use Rattle.network_theory.specs.Box.{LiesIn}
-use Rattle.network_theory.specs.Network.{Network, IsUncoupled}
+use Rattle.network_theory.specs.Network.{Network}
 use Rattle.network_theory.specs.Live.{Live}
 use Rattle.network_theory.specs.Between.{IsPair, LiesBetween}
 use Rattle.network_theory.specs.Admittance.{Part}
@@ -15,10 +14,6 @@ use Rattle.plain_elimination.specs.Elimination.{HoldsRows}
 use Rattle.plain_elimination.specs.Rectangles.{reduce_rectangles}
 use Rattle.admittance_box.specs.BoxMatrix.{box_matrix}
 use Rattle.admittance_box.specs.Places.{IsNodeOrdering}
-
--- no branch belongs to a group of three
-abbrev pub HasNoGroup : Network → Type 0
-HasNoGroup network = AllByRecursion IsUncoupled network.branches
 
 -- a pair of networks and a live node with its node ordering, for which the assembly is meant
 pub record CanAssemble (low high : Network) (driven : ℕ) (ordering : List ℕ) : Type 0 where

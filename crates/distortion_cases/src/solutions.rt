@@ -3,7 +3,6 @@ ghost use Rattle.std.specs.Prelude.{◌≡◌, IfOk};
 ghost use Rattle.network_theory.specs.Live.{Live};
 ghost use Rattle.net_branch.specs.Exact.{exact_network};
 ghost use Rattle.net_branch.specs.Whole.{IsWholeNetwork};
-ghost use Rattle.admittance_box.specs.HeldMatrix.{HasNoGroup};
 
 use crate::networks::{ONE, Part, ZERO, grounded, live_node, network_of};
 use complex_interval::Span;
@@ -68,7 +67,6 @@ fn expect<T: PartialEq + Debug + Drop>(rt: &impl Abort, found: T, wanted: T, lab
 // A solver of a network with this live node.
 fn solver(alloc: Global, network: &Network, node: NodeId) -> Result<OrderSolver<Span<40>>, Fail>
     requires whole { IsWholeNetwork network.now }
-    requires no_group { HasNoGroup (exact_network network.now) }
     requires live { Live (exact_network network.now) node.number }
     ensures { IfOk result (λ s. s.network ≡ exact_network network.now) }
 {

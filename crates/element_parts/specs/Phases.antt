@@ -11,6 +11,11 @@ use Rattle.element_parts.specs.Expansion.{to_ground, between}
 abbrev pub first_node : ℕ → ℕ
 first_node bus = 3 * bus
 
+-- the node of a phase of the bus, by the phase's number
+abbrev pub phase_node : ℕ → ℕ → ℕ
+phase_node bus phase = first_node bus + phase
+
+-- the number of a phase
 abbrev pub place_of : Phase → ℕ
 place_of A = 0
 place_of B = 1

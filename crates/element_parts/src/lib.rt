@@ -15,7 +15,7 @@ pub use per_unit::{
     times, triple_impedance, zero,
 };
 pub use phases::{
-    Coupling, Ohms, coupling_share, first_node, next_phase, place_of, push_group_between,
-    push_group_to_ground, to_return,
+    Coupling, Ohms, coupling_share, first_node, next_phase, phase_node, place_of,
+    push_group_between, push_group_to_ground, to_return,
 };
 pub use power::{Power, power_in};

@@ -4,7 +4,7 @@ ghost use Rattle.network_theory.specs.Branch.{Coupled3};
 ghost use Rattle.study_model.specs.declared.limits.TheConstants.{MAX_BUSES};
 ghost use Rattle.net_branch.specs.Exact.{exact_law, exact_branch};
 ghost use Rattle.element_parts.specs.Expansion.{to_ground, between};
-ghost use Rattle.element_parts.specs.Phases.{first_node, place_of, next_phase, to_return, group_to_ground, group_between, coupling_share};
+ghost use Rattle.element_parts.specs.Phases.{first_node, phase_node, place_of, next_phase, to_return, group_to_ground, group_between, coupling_share};
 ghost use Rattle.element_parts.specs.Couplings.{exact_coupling};
 
 use crate::branches::{between, to_ground};
@@ -74,6 +74,16 @@ pub fn first_node(bus: u32) -> u32
     ensures few { result < 3 * MAX_BUSES }
 {
     3 * bus
+}
+
+/// The node of a phase of a bus of a network of three phases, by the phase's number from 0. (This project's own.)
+pub fn phase_node(bus: u32, phase: u32) -> u32
+    requires bus { bus < MAX_BUSES }
+    requires phase { phase < 3 }
+    ensures value { result ≡ phase_node bus phase }
+    ensures few { result < 3 * MAX_BUSES }
+{
+    first_node(bus) + phase
 }
 
 /// The number of a phase, from 0.

@@ -1,8 +1,9 @@
 -- The injections of an order, at the nodes of a network and in per unit.
-use Rattle.std.specs.Prelude.{ℕ, ℤ, ◌+◌, ◌*◌, ◌*ℤ◌, ◌^◌, ◌≤◌, nat_eq, unsigned_abs, List, map, length, All}
+use Rattle.std.specs.Prelude.{ℕ, ℤ, ◌*◌, ◌*ℤ◌, ◌^◌, ◌≤◌, nat_eq, unsigned_abs, List, map, length, All}
 use Rattle.std.specs.List.{filter}
 use Rattle.exact_algebra.specs.Ratio.{Ratio, over}
 use Rattle.node_injection.specs.Injected.{ExactInjection}
+use Rattle.element_parts.specs.Phases.{phase_node}
 use Rattle.study_model.specs.Lawful.{IsBus}
 use Rattle.study_model.specs.Voltages.{kv_of}
 use Rattle.study_model.specs.declared.words.StudyModel.{StudyModel}
@@ -15,7 +16,7 @@ use Rattle.spectrum_reader.specs.declared.injection.TheConstants.{MAX_INJECTIONS
 -- the node of a bus, or of a phase of a bus
 unfoldable pub node_of : StudyModel → ℕ → ℕ → ℕ
 node_of study_model.Sequence bus phase = bus
-node_of study_model.Phases bus phase = 3 * bus + phase
+node_of study_model.Phases bus phase = phase_node bus phase
 
 -- a current of i amperes at v kV, for a base of s MVA, all in millionths: i·v/(s·10^9)
 unfoldable pub current_per_unit : ℤ → ℤ → ℤ → Ratio

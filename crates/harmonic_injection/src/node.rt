@@ -7,7 +7,7 @@ ghost use Rattle.node_injection.specs.Injected.{exact_injection};
 ghost use Rattle.harmonic_injection.specs.Injections.{AreInStudy, current_per_unit, injection_of, injections_of, node_of};
 ghost use Rattle.study_model.specs.declared.limits.TheConstants.{MAX_BUSES};
 
-use element_parts::{kv, product, scaled, small};
+use element_parts::{kv, phase_node, product, scaled, small};
 use exact_fraction::Fraction;
 use fixed_decimal::Decimal;
 use net_branch::NodeId;
@@ -28,7 +28,7 @@ pub fn node_of(model: StudyModel, bus: u32, phase: u32) -> NodeId
     match model {
         StudyModel::Sequence => NodeId { number: bus },
         StudyModel::Phases => NodeId {
-            number: 3 * bus + phase,
+            number: phase_node(bus, phase),
         },
     }
 }

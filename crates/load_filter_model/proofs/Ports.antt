@@ -5,7 +5,7 @@ use Rattle.network_theory.specs.Branch.{Law}
 use Rattle.net_branch.proofs.Wholes.{each_append}
 use Rattle.study_model.specs.declared.words.Phase.{Phase}
 use Rattle.study_model.specs.declared.words.Phase.TheVariants.{A, B, C}
-use Rattle.element_parts.specs.Phases.{first_node, place_of}
+use Rattle.element_parts.specs.Phases.{first_node, phase_node, place_of}
 use Rattle.element_parts.proofs.Sound.{IsSoundLaw, AreSoundLaws, IsSoundBranch, AreSound, IsSound, sound_between, sound_to_grounds, sound_betweens}
 use Rattle.load_filter_model.specs.Ports.{Port, inner_nodes, returning, branches_behind, port_branches, at_node, in_each_phase, at_phases}
 
@@ -45,9 +45,9 @@ each_phase_sound : (nodes owner : ℕ) (port : Port) (neutral : Option ℕ) (bus
 each_phase_sound nodes owner port neutral bus next s h i n =
     let sound = IsSoundBranch nodes owner in
     let inner = inner_nodes port.capacitor in
-    each_append sound (port_branches port neutral (first_node bus + 0) (next + 0 * inner) owner) _ (port_sound nodes owner port neutral _ _ s (omega (arith, h)) (omega (arith, i)) n)
-    (each_append sound (port_branches port neutral (first_node bus + 1) (next + 1 * inner) owner) _ (port_sound nodes owner port neutral _ _ s (omega (arith, h)) (omega (arith, i)) n)
-    (port_sound nodes owner port neutral (first_node bus + 2) (next + 2 * inner) s h (omega (arith, i)) n))
+    each_append sound (port_branches port neutral (phase_node bus 0) (next + 0 * inner) owner) _ (port_sound nodes owner port neutral _ _ s (omega (arith, h)) (omega (arith, i)) n)
+    (each_append sound (port_branches port neutral (phase_node bus 1) (next + 1 * inner) owner) _ (port_sound nodes owner port neutral _ _ s (omega (arith, h)) (omega (arith, i)) n)
+    (port_sound nodes owner port neutral (phase_node bus 2) (next + 2 * inner) s h (omega (arith, i)) n))
 
 below_three : (phase : Phase) → place_of phase ≤ 2
 below_three A = omega arith
@@ -55,7 +55,7 @@ below_three B = omega arith
 below_three C = omega arith
 
 pub at_phases_sound : (port : Port) (grounded : Bool) (phase : Option Phase) (bus next owner : ℕ) → first_node bus + 2 < next → IsSoundPort port → IsSound next owner (at_phases port grounded phase bus next owner)
-at_phases_sound port grounded (Some phase) bus next owner h s = at_node_sound port (first_node bus + place_of phase) next owner (omega (arith, h, below_three phase)) s
+at_phases_sound port grounded (Some phase) bus next owner h s = at_node_sound port (phase_node bus (place_of phase)) next owner (omega (arith, h, below_three phase)) s
 at_phases_sound port true None bus next owner h s = each_phase_sound (next + 3 * inner_nodes port.capacitor) owner port None bus next s (omega (arith, h)) (omega arith) tt
 at_phases_sound port false None bus next owner h s =
     each_phase_sound (next + (1 + 3 * inner_nodes port.capacitor)) owner port (Some next) bus (next + 1) s (omega (arith, h)) (omega arith) (omega arith)

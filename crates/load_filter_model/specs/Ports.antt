@@ -3,7 +3,7 @@ use Rattle.std.specs.Prelude.{ℕ, ◌+◌, ◌*◌, Bool, true, false, List, []
 use Rattle.network_theory.specs.Branch.{Law, Branch}
 use Rattle.study_model.specs.declared.words.Phase.{Phase}
 use Rattle.element_parts.specs.Expansion.{Expansion, between}
-use Rattle.element_parts.specs.Phases.{first_node, place_of, in_phases, to_return}
+use Rattle.element_parts.specs.Phases.{phase_node, place_of, in_phases, to_return}
 
 -- the law of the capacitor, where there is one, and those of the branches behind it
 pub record Port : Type 0 where
@@ -32,11 +32,11 @@ at_node port node next owner = record { inner = inner_nodes port.capacitor; bran
 
 -- in each phase of a bus, where the phases' inner nodes are numbered from `next` on
 abbrev pub in_each_phase : Port → Option ℕ → ℕ → ℕ → ℕ → List Branch
-in_each_phase port neutral bus next owner = in_phases (λ p. port_branches port neutral (first_node bus + p) (next + p * inner_nodes port.capacitor) owner)
+in_each_phase port neutral bus next owner = in_phases (λ p. port_branches port neutral (phase_node bus p) (next + p * inner_nodes port.capacitor) owner)
 
 -- at the phases of a bus: to ground where grounded, else to one neutral, whose inner node comes first; with a phase in that phase alone, to ground
 abbrev pub at_phases : Port → Bool → Option Phase → ℕ → ℕ → ℕ → Expansion
-at_phases port grounded (Some phase) bus next owner = at_node port (first_node bus + place_of phase) next owner
+at_phases port grounded (Some phase) bus next owner = at_node port (phase_node bus (place_of phase)) next owner
 at_phases port true None bus next owner = record { inner = 3 * inner_nodes port.capacitor; branches = in_each_phase port None bus next owner }
 at_phases port false None bus next owner = record { inner = 1 + 3 * inner_nodes port.capacitor; branches = in_each_phase port (Some next) bus (next + 1) owner }
 

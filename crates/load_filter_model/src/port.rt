@@ -4,11 +4,11 @@ ghost use Rattle.study_model.specs.declared.limits.TheConstants.{MAX_BUSES};
 ghost use Rattle.net_branch.specs.declared.limits.TheConstants.{MAX_NODES};
 ghost use Rattle.net_branch.specs.Exact.{exact_law, exact_branch};
 ghost use Rattle.element_parts.specs.Parts.{exact_parts};
-ghost use Rattle.element_parts.specs.Phases.{first_node};
+ghost use Rattle.element_parts.specs.Phases.{phase_node};
 ghost use Rattle.load_filter_model.specs.Ports.{single, inner_nodes, returning, port_branches, at_node, in_each_phase, at_phases};
 ghost use Rattle.load_filter_model.specs.ExactPorts.{exact_port};
 
-use element_parts::{Parts, between, first_node, place_of, to_return};
+use element_parts::{Parts, between, phase_node, place_of, to_return};
 use net_branch::{Branch, Law};
 use sqlite_items::Items;
 use std::alloc::{AllocError, Global};
@@ -121,9 +121,9 @@ fn push_phase(
     requires bus { bus < MAX_BUSES }
     requires phase { phase < 3 }
     requires next { next ≤ MAX_NODES + 1 }
-    ensures { OnOk result (map exact_branch branches.new ≡ map exact_branch branches.old ++ port_branches (exact_port port.now) neutral (first_node bus + phase) (next + phase * inner_nodes (exact_port port.now).capacitor) owner) }
+    ensures { OnOk result (map exact_branch branches.new ≡ map exact_branch branches.old ++ port_branches (exact_port port.now) neutral (phase_node bus phase) (next + phase * inner_nodes (exact_port port.now).capacitor) owner) }
 {
-    let node = first_node(bus) + phase;
+    let node = phase_node(bus, phase);
     let inner = next + phase * inner_nodes(port);
     push_port(alloc, branches, port, neutral, node, inner, owner)
 }
@@ -165,7 +165,7 @@ pub fn at_phases(
     ensures { IfOk result (λ parts. exact_parts parts ≡ at_phases (exact_port port.now) grounded phase bus next owner) }
 {
     if let Some(phase) = phase {
-        let node = first_node(bus) + place_of(phase);
+        let node = phase_node(bus, place_of(phase));
         return at_node(alloc, port, node, next, owner);
     }
     let inner = 3 * inner_nodes(port);

@@ -29,6 +29,9 @@ worked_study = record {
   filters = [];
   scans = [];
   points = [];
+  candidates = [];
+  tolerances = [];
+  outages = [];
 }
 
 -- At order 2 its admittances are -j/2, 1/25, -j/100, (3 - 8j)/73 and 2j/25; the impedance is (11840 + 78780j)/43469.

@@ -1,7 +1,7 @@
 -- What a scan of a study looks at.
-use Rattle.std.specs.Prelude.{ℕ, ◌+◌, Option, Some, None}
+use Rattle.std.specs.Prelude.{ℕ, Option, Some, None}
 use Rattle.network_theory.specs.Network.{Network}
-use Rattle.element_parts.specs.Phases.{first_node, place_of}
+use Rattle.element_parts.specs.Phases.{phase_node, place_of}
 use Rattle.sequence_network.specs.Networks.{network_of}
 use Rattle.phase_network.specs.Phases.{phase_network_of}
 use Rattle.study_model.specs.declared.records.ScanItem.{ScanItem}
@@ -22,7 +22,7 @@ scanned_network study scan = scanned_in study.model study scan
 -- the node of a bus; with a phase, of its three nodes that of the phase
 abbrev pub node_at : ℕ → Option Phase → ℕ
 node_at bus None = bus
-node_at bus (Some phase) = first_node bus + place_of phase
+node_at bus (Some phase) = phase_node bus (place_of phase)
 
 -- the node that a scan looks at
 abbrev pub scanned_node : ScanItem → ℕ

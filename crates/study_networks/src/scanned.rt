@@ -8,7 +8,7 @@ ghost use Rattle.study_networks.specs.Networks.{AreNetworksOf};
 ghost use Rattle.study_networks.specs.Scanned.{scanned_network, scanned_node};
 
 use crate::networks::StudyNetworks;
-use element_parts::{first_node, place_of};
+use element_parts::{phase_node, place_of};
 use net_branch::Network;
 use study_model::{ScanItem, Sequence, Study};
 
@@ -40,6 +40,6 @@ pub fn scanned_node(scan: &ScanItem) -> u32
 {
     match scan.phase {
         None => scan.bus,
-        Some(phase) => first_node(scan.bus) + place_of(phase),
+        Some(phase) => phase_node(scan.bus, place_of(phase)),
     }
 }
