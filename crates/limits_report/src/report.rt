@@ -4,7 +4,6 @@ ghost use Rattle.std.specs.List.{AllByRecursion, list_any};
 ghost use Rattle.study_networks.specs.Networks.{AreNetworksOf};
 ghost use Rattle.study_model.specs.Lawful.{IsLawful};
 ghost use Rattle.spectrum_reader.specs.Lawful.{IsLawfulSpectrum};
-ghost use Rattle.harmonic_injection.specs.Paths.{HavePaths};
 ghost use Rattle.scan_report.specs.Rows.{fields_of, HaveText};
 ghost use Rattle.limits_report.specs.Report.{passes, fails, is_undecided, has_verdict, count_of, counts_row, status_of, closed, limits_rows_of, limits_status};
 ghost use Rattle.limits_report.specs.Claim.{HoldsOfLimits};
@@ -71,21 +70,39 @@ fn count_passes(rows: &[Row]) -> u32
     requires { length rows.now < 2 ^ 32 }
     ensures { result ≡ count_of passes rows.now }
 {
-    rows.iter().filter(|row| passes(row)).count() as u32
+    let mut count = 0;
+    for row in rows {
+        if passes(row) {
+            count += 1;
+        }
+    }
+    count
 }
 
 fn count_fails(rows: &[Row]) -> u32
     requires { length rows.now < 2 ^ 32 }
     ensures { result ≡ count_of fails rows.now }
 {
-    rows.iter().filter(|row| fails(row)).count() as u32
+    let mut count = 0;
+    for row in rows {
+        if fails(row) {
+            count += 1;
+        }
+    }
+    count
 }
 
 fn count_undecided(rows: &[Row]) -> u32
     requires { length rows.now < 2 ^ 32 }
     ensures { result ≡ count_of is_undecided rows.now }
 {
-    rows.iter().filter(|row| is_undecided(row)).count() as u32
+    let mut count = 0;
+    for row in rows {
+        if is_undecided(row) {
+            count += 1;
+        }
+    }
+    count
 }
 
 /// The row that counts the verdicts.
@@ -167,7 +184,7 @@ fn report_at<E: Enclosure>(
 /// point of common coupling its currents by order and phase, and their total demand distortion by phase; the counts of verdicts; the last row. The
 /// sequence model has one row where that of three phases has three. A node that isn't live in the network that an order sees has no row of that order.
 /// An order that injects at such a node has no solution: its rows have no bounds. Conditions: the study is accepted, the networks are its networks, and
-/// in the sequence model each row of the spectrum has a path. (This project's own; limits after IEEE Std 519-2022.)
+/// the spectrum is one beside it. (This project's own; limits after IEEE Std 519-2022.)
 #[tactic(auto, using(crate::proofs::Texts::have_text))]
 pub fn limits_rows(
     alloc: Global,
@@ -179,7 +196,6 @@ pub fn limits_rows(
     requires study { IsLawful study.now }
     requires networks { AreNetworksOf study.now networks.now }
     requires spectrum { IsLawfulSpectrum study.now spectrum.now.rows }
-    requires paths { HavePaths study.now spectrum.now.rows }
     ensures rows { IfOk result (λ report. report.rows ≡ limits_rows_of study.now spectrum.now.rows levels.now.rows) }
     ensures status { IfOk result (λ report. report.status ≡ limits_status study.now spectrum.now.rows levels.now.rows) }
     ensures text { IfOk result (λ report. AllByRecursion (λ row. HaveText (fields_of row)) report.rows) }

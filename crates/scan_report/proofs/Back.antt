@@ -2,7 +2,7 @@
 use Rattle.std.proofs.Common.{◌≡◌, ◌∙◌, ap, ℕ, ◌≤◌, Bool, true, false, List, ◌++◌, length, refl, arith, append_assoc}
 use Rattle.std.specs.Prelude.{◌==◌, if◌then◌else◌}
 use Rattle.scan_report.specs.declared.rows.Row.{Row}
-use Rattle.scan_report.specs.declared.rows.Row.TheVariants.{Scan, BoxLine, Region, Summary, Drill, Voltage, Thd, Current, Tdd, LimitsSummary, End}
+use Rattle.scan_report.specs.declared.rows.Row.TheVariants.{Scan, BoxLine, Region, Summary, Drill, Voltage, Thd, Current, Tdd, LimitsSummary, Candidate, Size, First, Verified, Tolerance, Outage, Case, Envelope, End}
 use Rattle.scan_report.specs.Fields.{fields_text}
 use Rattle.scan_report.specs.Rows.{word_of, fields_of, row_text}
 use Rattle.scan_report.specs.Reading.{Stage, between, within, MayStand, IsRow}
@@ -97,4 +97,12 @@ row_some (Thd bus phase lo hi limit verdict) = omega arith
 row_some (Current point phase order lo hi limit verdict) = omega arith
 row_some (Tdd point phase lo hi limit verdict) = omega arith
 row_some (LimitsSummary passes fails undecided) = omega arith
+row_some (Candidate name bus from to threshold) = omega arith
+row_some (Size number size cleared peaks undecided) = omega arith
+row_some (First name size) = omega arith
+row_some (Verified scans boxes) = omega arith
+row_some (Tolerance entries) = omega arith
+row_some (Outage number element floating) = omega arith
+row_some (Case outage name boxes cleared peaks undecided at micro_ohms) = omega arith
+row_some (Envelope name cases cleared peaks undecided) = omega arith
 row_some (End status) = omega arith

@@ -57,6 +57,8 @@ has_text : (f : Field) → IsField f → HasFieldText f
 has_text (field.Bound ohms) h = h
 has_text (field.Threshold None) h = tt
 has_text (field.Threshold (Some ohms)) h = h.0
+has_text (field.Size None) h = tt
+has_text (field.Size (Some size)) h = h.0
 has_text _ h = tt
 
 pub have_text : (fs : List Field) → AreFields fs → HaveText fs

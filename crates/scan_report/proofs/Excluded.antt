@@ -1,10 +1,10 @@
 -- A report has no bad line.
-use Rattle.std.proofs.Common.{◌≡◌, ◌∙◌, ap, sym, ℕ, List, [], ◌∷◌, ◌++◌, length, refl, subst, arith, length-append, append_assoc}
+use Rattle.std.proofs.Common.{◌≡◌, ◌∙◌, ap, sym, ℕ, suc, ◌+◌, List, [], ◌∷◌, ◌++◌, length, refl, subst, arith, length-append, append_assoc}
 use Rattle.std.proofs.lemmas.List.{append_cancel_left}
 use Rattle.scan_report.specs.declared.rows.Row.{Row}
 use Rattle.scan_report.specs.Rows.{row_text}
 use Rattle.scan_report.specs.Loose.{row_of}
-use Rattle.scan_report.specs.Reading.{Stage, ended, MayStand, IsRow, IsInOrder, no_row, one_more, text_of, stage_after, NoReportIsBad}
+use Rattle.scan_report.specs.Reading.{Stage, ended, MayStand, IsRow, IsInOrder, no_row, one_more, text_of, stage_after, IsReport, IsBadAt, NoReportIsBad}
 use Rattle.scan_report.specs.Stands.{BeginsWithNone}
 use Rattle.scan_report.proofs.Back.{row_back, row_some}
 
@@ -44,3 +44,38 @@ apart (one_more s t q qs may is order) (r ∷ rs) rest whole e open_yet none =
 
 pub no_report_is_bad : NoReportIsBad
 no_report_is_bad bytes rows line report bad = apart bad.order rows bad.rest report.order (sym report.text ∙ bad.text) bad.unfinished bad.none
+
+-- ---- bytes are one report at most, and have one first bad line at most
+same_rows : {s : Stage} (a b : List Row) → IsInOrder s a ended → IsInOrder s b ended → text_of a ≡ text_of b → a ≡ b
+same_rows [] [] h k e = refl
+same_rows [] (q ∷ qs) h k e = absurd (some_text q (text_of qs) e)
+same_rows (r ∷ rs) [] h k e = absurd (some_text r (text_of rs) (sym e))
+same_rows {s} (r ∷ rs) (q ∷ qs) h k e =
+    let f = head_of r rs h in
+    let g = head_of q qs k in
+    let same : r ≡ q = same_row s r q (text_of rs) (text_of qs) f.may g.may f.is g.is e in
+    let tails : text_of rs ≡ text_of qs = append_cancel_left (row_text q) (text_of rs) (text_of qs) (subst (λ x. row_text x ++ text_of rs ≡ row_text q ++ text_of qs) same e) in
+    ap (λ (x : Row). x ∷ rs) same ∙ ap (λ (l : List Row). q ∷ l) (same_rows rs qs (subst (λ x. IsInOrder (stage_after x) rs ended) same f.rest) g.rest tails)
+
+pub one_report : (bytes : List ℕ) (a b : List Row) → IsReport bytes a → IsReport bytes b → a ≡ b
+one_report bytes a b h k = same_rows a b h.order k.order (sym h.text ∙ k.text)
+
+-- rows before a first bad line are as many as those before another
+same_count : {s u v : Stage} (a b : List Row) (x y : List ℕ) → IsInOrder s a u → IsInOrder s b v → text_of a ++ x ≡ text_of b ++ y → BeginsWithNone u x → BeginsWithNone v y → length a ≡ length b
+same_count [] [] x y h k e none none' = refl
+same_count [] (q ∷ qs) x y h k e none none' =
+    let g = head_of q qs k in
+    absurd (subst (λ t. BeginsWithNone t x) (sym (none_left h refl)) none q (text_of qs ++ y) g.may g.is (e ∙ append_assoc (row_text q) (text_of qs) y))
+same_count (r ∷ rs) [] x y h k e none none' =
+    let f = head_of r rs h in
+    absurd (subst (λ t. BeginsWithNone t y) (sym (none_left k refl)) none' r (text_of rs ++ x) f.may f.is (sym e ∙ append_assoc (row_text r) (text_of rs) x))
+same_count {s} {u} (r ∷ rs) (q ∷ qs) x y h k e none none' =
+    let f = head_of r rs h in
+    let g = head_of q qs k in
+    let joined : row_text r ++ (text_of rs ++ x) ≡ row_text q ++ (text_of qs ++ y) = sym (append_assoc (row_text r) (text_of rs) x) ∙ e ∙ append_assoc (row_text q) (text_of qs) y in
+    let same : r ≡ q = same_row s r q (text_of rs ++ x) (text_of qs ++ y) f.may g.may f.is g.is joined in
+    let tails : text_of rs ++ x ≡ text_of qs ++ y = append_cancel_left (row_text q) (text_of rs ++ x) (text_of qs ++ y) (subst (λ z. row_text z ++ (text_of rs ++ x) ≡ row_text q ++ (text_of qs ++ y)) same joined) in
+    ap suc (same_count rs qs x y (subst (λ z. IsInOrder (stage_after z) rs u) same f.rest) g.rest tails none none')
+
+pub one_bad_line : (bytes : List ℕ) (m n : ℕ) → IsBadAt bytes m → IsBadAt bytes n → m ≡ n
+one_bad_line bytes m n h k = h.number ∙ ap (λ (c : ℕ). c + 1) (same_count h.rows k.rows h.rest k.rest h.order k.order (sym h.text ∙ k.text) h.none k.none) ∙ sym k.number

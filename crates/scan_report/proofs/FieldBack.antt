@@ -18,7 +18,7 @@ use Rattle.ieee519_limits.specs.declared.bounds.Verdict.{Verdict}
 use Rattle.ieee519_limits.specs.declared.bounds.Verdict.TheVariants as verdict
 use Rattle.scan_report.specs.declared.rows.PhaseWord.{PhaseWord}
 use Rattle.scan_report.specs.declared.rows.PhaseWord.TheVariants as phase
-use Rattle.scan_report.specs.Fields.{net_word, box_word, phase_word, verdict_word, order_or_dash, ohms_or_dash, ohms_or_curve, percent_or_dash, field_text, fields_text}
+use Rattle.scan_report.specs.Fields.{net_word, box_word, phase_word, verdict_word, order_or_dash, ohms_or_dash, ohms_or_curve, percent_or_dash, feed_word, size_or_dash, field_text, fields_text}
 use Rattle.scan_report.specs.Rows.{IsOhms}
 use Rattle.scan_report.specs.Reading.{IsShort, IsLong, IsThreshold, IsField, AreFields}
 use Rattle.scan_report.specs.Loose.{field_of, after_field, first_of, number_of, short_of, long_of, order_of, ohms_of, threshold_of, name_in, net_of, box_word_of, method_in}
@@ -28,6 +28,11 @@ use Rattle.scan_report.proofs.Fronts.{Inner, Inner-decimal, Inner-places, Inner-
 abbrev pub percent_as : Option ℕ → List ℕ → Option ℕ
 percent_as None x = None
 percent_as (Some percent) x = Some (long_of x)
+
+-- a size of the kind of another; no row that is read has one
+abbrev pub size_as : Option ℤ → List ℕ → Option ℤ
+size_as None x = None
+size_as (Some size) x = Some (pos (max 1 (min (number_of x) 999999999999)))
 
 -- a text read as a field of the kind of another
 abbrev pub read_as : Field → List ℕ → Field
@@ -44,6 +49,8 @@ read_as (field.Method method) x = field.Method (method_in x)
 read_as (field.Phase word) x = field.Phase word
 read_as (field.Percent percent) x = field.Percent (percent_as percent x)
 read_as (field.Verdict verdict) x = field.Verdict verdict
+read_as (field.Size size) x = field.Size (size_as size x)
+read_as (field.Floating floating) x = field.Floating floating
 
 -- the fields of a text, each of the kind of one of these
 abbrev pub fields_in : List Field → List ℕ → List Field
@@ -94,6 +101,16 @@ threshold_back (Some (pos n)) h =
     let e : max 1 (min n 999999999999) ≡ n = omega arith in
     rw (places_no_letter n (omega arith), number_is (places n) n (Reads-places n (omega arith)) (omega arith), e) refl
 threshold_back (Some (negsuc n)) h = let some = h.0 in absurd (omega (arith, ints, some))
+
+size_back : (size : Option ℤ) → IsThreshold size → size_as size (size_or_dash size) ≡ size
+size_back None h = refl
+size_back (Some (pos n)) h =
+    let some = h.0 in
+    let small : n < 10 ^ 12 = h.1 in
+    let big : 1 ≤ n = omega (arith, ints, some) in
+    let e : max 1 (min n 999999999999) ≡ n = omega arith in
+    rw (number_is (places n) n (Reads-places n (omega arith)) (omega arith), e) refl
+size_back (Some (negsuc n)) h = let some = h.0 in absurd (omega (arith, ints, some))
 
 name_back : (x : List ℕ) → is_name x ≡ true → name_in x ≡ x
 unfolding name_in
@@ -148,6 +165,10 @@ inner_verdict verdict.Pass = record { is = refl }
 inner_verdict verdict.Fail = record { is = refl }
 inner_verdict verdict.Undecided = record { is = refl }
 
+inner_feed : (floating : Bool) → Inner (feed_word floating)
+inner_feed true = record { is = refl }
+inner_feed false = record { is = refl }
+
 inner_percent : (percent : Option ℕ) → IsLong percent → Inner (percent_or_dash percent)
 inner_percent None h = record { is = refl }
 inner_percent (Some n) h = Inner-four_places n (omega arith)
@@ -165,6 +186,10 @@ inner_threshold : (t : Option ℤ) → IsThreshold t → Inner (ohms_or_curve t)
 inner_threshold None h = record { is = refl }
 inner_threshold (Some ohms) h = let small : unsigned_abs ohms < 10 ^ 12 = h.1 in Inner-places (unsigned_abs ohms) (omega arith)
 
+inner_size : (size : Option ℤ) → IsThreshold size → Inner (size_or_dash size)
+inner_size None h = record { is = refl }
+inner_size (Some size) h = let small : unsigned_abs size < 10 ^ 12 = h.1 in Inner-places (unsigned_abs size) (omega arith)
+
 inner_field : (f : Field) → IsField f → Inner (field_text f)
 inner_field (field.Name name) h = Inner-name name h
 inner_field (field.Number number) h = Inner-decimal number (omega arith)
@@ -179,6 +204,8 @@ inner_field (field.Method method) h = inner_method method
 inner_field (field.Phase word) h = inner_phase word
 inner_field (field.Percent percent) h = inner_percent percent h
 inner_field (field.Verdict verdict) h = inner_verdict verdict
+inner_field (field.Size size) h = inner_size size h
+inner_field (field.Floating floating) h = inner_feed floating
 
 -- A field's own text is read as the field.
 field_back : (f : Field) → IsField f → read_as f (field_text f) ≡ f
@@ -195,6 +222,8 @@ field_back (field.Method method) h = ap (λ x. field.Method x) (method_back meth
 field_back (field.Phase word) h = refl
 field_back (field.Percent percent) h = ap (λ x. field.Percent x) (percent_back percent h)
 field_back (field.Verdict verdict) h = refl
+field_back (field.Size size) h = ap (λ x. field.Size x) (size_back size h)
+field_back (field.Floating floating) h = refl
 
 -- what is read of any text is in its range
 short_lt : (x : List ℕ) → short_of x < 2 ^ 32
@@ -232,6 +261,10 @@ threshold_is : (x : List ℕ) → IsThreshold (threshold_of x)
 unfolding threshold_of
 threshold_is x = elim (first_of x == 99) as (λ b. IsThreshold (if b then None else Some (pos (max 1 (min (number_of x) 999999999999))))) [ true ↦ tt | false ↦ threshold_within x ]
 
+size_within : (size : Option ℤ) (x : List ℕ) → IsThreshold (size_as size x)
+size_within None x = tt
+size_within (Some size) x = threshold_within x
+
 field_is : (f : Field) (x : List ℕ) → IsField (read_as f x)
 field_is (field.Name name) x = name_is x
 field_is (field.Number number) x = short_lt x
@@ -246,6 +279,8 @@ field_is (field.Method method) x = tt
 field_is (field.Phase word) x = tt
 field_is (field.Percent percent) x = percent_long percent x
 field_is (field.Verdict verdict) x = tt
+field_is (field.Size size) x = size_within size x
+field_is (field.Floating floating) x = tt
 
 pub fields_are : (fs : List Field) (x : List ℕ) → AreFields (fields_in fs x)
 fields_are [] x = tt

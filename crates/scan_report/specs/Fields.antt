@@ -1,5 +1,5 @@
 -- The text of each kind of field of a row.
-use Rattle.std.specs.Prelude.{ℕ, ℤ, ◌+◌, unsigned_abs, List, [], ◌∷◌, ◌++◌, codes, Option, Some, None}
+use Rattle.std.specs.Prelude.{ℕ, ℤ, ◌+◌, unsigned_abs, Bool, true, false, List, [], ◌∷◌, ◌++◌, codes, Option, Some, None}
 use Rattle.std.specs.Fmt.{decimal}
 use Rattle.study_model.specs.ValueWords.{method_text}
 use Rattle.ieee519_limits.specs.declared.bounds.Verdict.{Verdict}
@@ -39,6 +39,11 @@ verdict_word verdict.Pass = codes "pass"
 verdict_word verdict.Fail = codes "fail"
 verdict_word verdict.Undecided = codes "undecided"
 
+-- whether some bus floats
+abbrev pub feed_word : Bool → List ℕ
+feed_word true = codes "floating"
+feed_word false = codes "fed"
+
 -- an order, or a dash where it is absent
 abbrev pub order_or_dash : Option ℕ → List ℕ
 order_or_dash None = codes "-"
@@ -59,6 +64,11 @@ abbrev pub percent_or_dash : Option ℕ → List ℕ
 percent_or_dash None = codes "-"
 percent_or_dash (Some ten_thousandths) = four_places ten_thousandths
 
+-- the size of a bank, or a dash where it is absent
+abbrev pub size_or_dash : Option ℤ → List ℕ
+size_or_dash None = codes "-"
+size_or_dash (Some size) = places (unsigned_abs size)
+
 -- the text of a field
 abbrev pub field_text : Field → List ℕ
 field_text (field.Name name) = name
@@ -74,6 +84,8 @@ field_text (field.Method method) = method_text method
 field_text (field.Phase word) = phase_word word
 field_text (field.Percent percent) = percent_or_dash percent
 field_text (field.Verdict verdict) = verdict_word verdict
+field_text (field.Size size) = size_or_dash size
+field_text (field.Floating floating) = feed_word floating
 
 -- each field after a comma, and a line feed
 abbrev pub fields_text : List Field → List ℕ
@@ -95,6 +107,8 @@ most_of (field.Method method) = 11
 most_of (field.Phase word) = 1
 most_of (field.Percent percent) = 21
 most_of (field.Verdict verdict) = 9
+most_of (field.Size size) = 21
+most_of (field.Floating floating) = 8
 
 -- the most bytes of fields, their commas and the line feed
 abbrev pub most_of_all : List Field → ℕ

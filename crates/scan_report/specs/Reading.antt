@@ -44,10 +44,10 @@ abbrev pub IsLong : Option ℕ → Type 0
 IsLong None = Unit {0}
 IsLong (Some n) = n < 2 ^ 64
 
--- a threshold above 0 and below a million ohms, or none
+-- a threshold or a size above 0 and below a million, or none
 abbrev pub IsThreshold : Option ℤ → Type 0
 IsThreshold None = Unit {0}
-IsThreshold (Some ohms) = (pos 0 <ℤ ohms) × (unsigned_abs ohms < 10 ^ 12)
+IsThreshold (Some value) = (pos 0 <ℤ value) × (unsigned_abs value < 10 ^ 12)
 
 -- a field in the range of its kind
 abbrev pub IsField : Field → Type 0
@@ -64,6 +64,8 @@ IsField (field.Method method) = Unit {0}
 IsField (field.Phase word) = Unit {0}
 IsField (field.Percent percent) = IsLong percent
 IsField (field.Verdict verdict) = Unit {0}
+IsField (field.Size size) = IsThreshold size
+IsField (field.Floating floating) = Unit {0}
 
 abbrev pub AreFields : List Field → Type 0
 AreFields [] = Unit {0}

@@ -1,6 +1,6 @@
 // The fields of a row: what kinds there are, and each one's text.
 ghost use Rattle.std.specs.Prelude.{◌≡◌, ◌≤◌, ◌+◌, ◌++◌, length};
-ghost use Rattle.scan_report.specs.Fields.{net_word, box_word, phase_word, verdict_word, order_or_dash, ohms_or_dash, ohms_or_curve, percent_or_dash, field_text, fields_text, most_of, most_of_all};
+ghost use Rattle.scan_report.specs.Fields.{net_word, box_word, phase_word, verdict_word, feed_word, order_or_dash, ohms_or_dash, ohms_or_curve, percent_or_dash, size_or_dash, field_text, fields_text, most_of, most_of_all};
 ghost use Rattle.scan_report.specs.Rows.{IsOhms, IsAboveZero, HasFieldText, HaveText};
 
 use crate::line::{LineBuf, push_millionths, push_number, push_percent, push_places};
@@ -9,7 +9,7 @@ use fixed_decimal::Decimal;
 use ieee519_limits::Verdict;
 use study_model::{Method, Name};
 
-/// A field of a row. Orders, hertz and ohms are in millionths, percents in ten-thousandths.
+/// A field of a row. Orders, hertz, ohms and sizes are in millionths, percents in ten-thousandths.
 #[derive(Clone, Copy)]
 pub enum Field {
     Name(Name),
@@ -29,6 +29,10 @@ pub enum Field {
     /// A percentage, or none.
     Percent(Option<u64>),
     Verdict(Verdict),
+    /// A bank's size, or none.
+    Size(Option<Decimal>),
+    /// Whether some bus floats.
+    Floating(bool),
 }
 
 fn net_text(word: NetWord) -> &'static [u8]
@@ -78,6 +82,13 @@ fn verdict_text(verdict: Verdict) -> &'static [u8]
     }
 }
 
+fn feed_text(floating: bool) -> &'static [u8]
+    ensures text { result.now ≡ feed_word floating }
+    ensures len { length result.now ≤ 8 }
+{
+    if floating { b"floating" } else { b"fed" }
+}
+
 fn push_at(line: &mut LineBuf, at: Option<u32>)
     requires { length line.old + 21 ≤ 256 }
     ensures text { line.new ≡ line.old ++ order_or_dash at }
@@ -125,6 +136,18 @@ fn push_share(line: &mut LineBuf, percent: Option<u64>)
     }
 }
 
+fn push_size(line: &mut LineBuf, size: Option<Decimal>)
+    requires range { IsAboveZero size }
+    requires room { length line.old + 21 ≤ 256 }
+    ensures text { line.new ≡ line.old ++ size_or_dash size }
+    ensures len { length line.new ≤ length line.old + 21 }
+{
+    match size {
+        Some(size) => push_millionths(line, size.millionths.unsigned_abs()),
+        None => line.push(b'-'),
+    }
+}
+
 /// Puts a field's text at the end.
 fn push_field(line: &mut LineBuf, field: &Field)
     requires has { HasFieldText field.now }
@@ -146,6 +169,8 @@ fn push_field(line: &mut LineBuf, field: &Field)
         Field::Phase(word) => line.push_text(phase_text(*word)),
         Field::Percent(percent) => push_share(line, *percent),
         Field::Verdict(verdict) => line.push_text(verdict_text(*verdict)),
+        Field::Size(size) => push_size(line, *size),
+        Field::Floating(floating) => line.push_text(feed_text(*floating)),
     }
 }
 

@@ -2,8 +2,13 @@
 ghost use Rattle.std.specs.Prelude.{◌≡◌, ◌≤◌, length, codes};
 ghost use Rattle.scan_report.specs.Rows.{row_text, fields_of, HaveText, IsRowOf};
 
+use crate::distortion_rows::{current_row, limits_summary_row, tdd_row, thd_row, voltage_row};
 use crate::fields::{Field, set_line};
 use crate::line::LineBuf;
+use crate::reach_rows::{
+    candidate_row, case_row, envelope_row, first_row, outage_row, size_row, tolerance_row,
+    verified_row,
+};
 use fixed_decimal::Decimal;
 use ieee519_limits::Verdict;
 use study_model::{Method, Name};
@@ -128,6 +133,62 @@ pub enum Row {
     LimitsSummary {
         passes: u32,
         fails: u32,
+        undecided: u32,
+    },
+    /// The first row of a candidate bank at a scan's bus: the scan's band, and its threshold in ohms, which is absent where it is a curve.
+    Candidate {
+        name: Name,
+        bus: Name,
+        from: u32,
+        to: u32,
+        threshold: Option<Decimal>,
+    },
+    /// A size of a candidate bank in MVAr, by its number from 1 within the list, and how many boxes of each kind its scan has.
+    Size {
+        number: u32,
+        size: Decimal,
+        cleared: u32,
+        peaks: u32,
+        undecided: u32,
+    },
+    /// The last row of a candidate bank: the first size in MVAr, if there is one, with which each box is cleared.
+    First {
+        name: Name,
+        size: Option<Decimal>,
+    },
+    /// A report that was verified: how many scans and boxes it has.
+    Verified {
+        scans: u32,
+        boxes: u32,
+    },
+    /// The first row of a report on tolerances: how many elements have one.
+    Tolerance {
+        entries: u32,
+    },
+    /// An element that is out, by its number from 1, and whether some bus floats without it.
+    Outage {
+        number: u32,
+        element: Name,
+        floating: bool,
+    },
+    /// A scan without the element of an outage: how many boxes it has, of each kind too. The order and the bound are those of its peak
+    /// with the greatest bound, the first of them.
+    Case {
+        outage: u32,
+        name: Name,
+        boxes: u32,
+        cleared: u32,
+        peaks: u32,
+        undecided: u32,
+        at: Option<u32>,
+        micro_ohms: Option<i128>,
+    },
+    /// How many cases a scan has, and how many of them are cleared, have a peak, or are undecided.
+    Envelope {
+        name: Name,
+        cases: u32,
+        cleared: u32,
+        peaks: u32,
         undecided: u32,
     },
     /// The last row of a report.
@@ -282,154 +343,6 @@ pub fn drill_row(row: &Row, line: &mut LineBuf)
     }
 }
 
-/// Sets the line to the text of a harmonic voltage. Condition: the row is of its kind.
-pub fn voltage_row(row: &Row, line: &mut LineBuf)
-    requires { IsRowOf (codes "voltage") row.now }
-    ensures text { line.new ≡ row_text row.now }
-    ensures len { length line.new ≤ 255 }
-{
-    if let Row::Voltage {
-        bus,
-        phase,
-        order,
-        lo,
-        hi,
-        limit,
-        verdict,
-    } = row
-    {
-        set_line(
-            line,
-            b"voltage",
-            &[
-                Field::Name(*bus),
-                Field::Phase(*phase),
-                Field::Number(*order),
-                Field::Percent(*lo),
-                Field::Percent(*hi),
-                Field::Percent(Some(*limit)),
-                Field::Verdict(*verdict),
-            ],
-        );
-    }
-}
-
-/// Sets the line to the text of the total harmonic distortion of a voltage. Condition: the row is of its kind.
-pub fn thd_row(row: &Row, line: &mut LineBuf)
-    requires { IsRowOf (codes "thd") row.now }
-    ensures text { line.new ≡ row_text row.now }
-    ensures len { length line.new ≤ 255 }
-{
-    if let Row::Thd {
-        bus,
-        phase,
-        lo,
-        hi,
-        limit,
-        verdict,
-    } = row
-    {
-        set_line(
-            line,
-            b"thd",
-            &[
-                Field::Name(*bus),
-                Field::Phase(*phase),
-                Field::Percent(*lo),
-                Field::Percent(*hi),
-                Field::Percent(Some(*limit)),
-                Field::Verdict(*verdict),
-            ],
-        );
-    }
-}
-
-/// Sets the line to the text of a harmonic current. Condition: the row is of its kind.
-pub fn current_row(row: &Row, line: &mut LineBuf)
-    requires { IsRowOf (codes "current") row.now }
-    ensures text { line.new ≡ row_text row.now }
-    ensures len { length line.new ≤ 255 }
-{
-    if let Row::Current {
-        point,
-        phase,
-        order,
-        lo,
-        hi,
-        limit,
-        verdict,
-    } = row
-    {
-        set_line(
-            line,
-            b"current",
-            &[
-                Field::Name(*point),
-                Field::Phase(*phase),
-                Field::Number(*order),
-                Field::Percent(*lo),
-                Field::Percent(*hi),
-                Field::Percent(Some(*limit)),
-                Field::Verdict(*verdict),
-            ],
-        );
-    }
-}
-
-/// Sets the line to the text of the total demand distortion of a current. Condition: the row is of its kind.
-pub fn tdd_row(row: &Row, line: &mut LineBuf)
-    requires { IsRowOf (codes "tdd") row.now }
-    ensures text { line.new ≡ row_text row.now }
-    ensures len { length line.new ≤ 255 }
-{
-    if let Row::Tdd {
-        point,
-        phase,
-        lo,
-        hi,
-        limit,
-        verdict,
-    } = row
-    {
-        set_line(
-            line,
-            b"tdd",
-            &[
-                Field::Name(*point),
-                Field::Phase(*phase),
-                Field::Percent(*lo),
-                Field::Percent(*hi),
-                Field::Percent(Some(*limit)),
-                Field::Verdict(*verdict),
-            ],
-        );
-    }
-}
-
-/// Sets the line to the text of the counts of a report on distortion. Condition: the row is of its kind.
-pub fn limits_summary_row(row: &Row, line: &mut LineBuf)
-    requires { IsRowOf (codes "summary,limits") row.now }
-    ensures text { line.new ≡ row_text row.now }
-    ensures len { length line.new ≤ 255 }
-{
-    if let Row::LimitsSummary {
-        passes,
-        fails,
-        undecided,
-    } = row
-    {
-        set_line(
-            line,
-            b"summary,limits",
-            &[
-                Field::Number(*passes),
-                Field::Number(*fails),
-                Field::Number(*undecided),
-            ],
-        );
-    }
-}
-
 /// Sets the line to the text of a report's last row. Condition: the row is of its kind.
 pub fn end_row(row: &Row, line: &mut LineBuf)
     requires { IsRowOf (codes "end") row.now }
@@ -442,7 +355,7 @@ pub fn end_row(row: &Row, line: &mut LineBuf)
 }
 
 /// Sets the line to the text of a row of any kind.
-/// Condition: its ohms, where it has some, are from 0 to 2^120, and a threshold is above 0.
+/// Condition: its ohms, where it has some, are from 0 to 2^120, and a threshold and a size are above 0.
 pub fn write_row(row: &Row, line: &mut LineBuf)
     requires { HaveText (fields_of row.now) }
     ensures text { line.new ≡ row_text row.now }
@@ -459,6 +372,14 @@ pub fn write_row(row: &Row, line: &mut LineBuf)
         Row::Current { .. } => current_row(row, line),
         Row::Tdd { .. } => tdd_row(row, line),
         Row::LimitsSummary { .. } => limits_summary_row(row, line),
+        Row::Candidate { .. } => candidate_row(row, line),
+        Row::Size { .. } => size_row(row, line),
+        Row::First { .. } => first_row(row, line),
+        Row::Verified { .. } => verified_row(row, line),
+        Row::Tolerance { .. } => tolerance_row(row, line),
+        Row::Outage { .. } => outage_row(row, line),
+        Row::Case { .. } => case_row(row, line),
+        Row::Envelope { .. } => envelope_row(row, line),
         Row::End { .. } => end_row(row, line),
     }
 }

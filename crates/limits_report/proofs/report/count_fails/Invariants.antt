@@ -1,0 +1,6 @@
+use Rattle.std.proofs.Common.{◌≡◌, take}
+use Rattle.limits_report.specs.Report.{fails, count_of}
+use Rattle.limits_report.proofs.report.count_fails.Given as goal
+
+abbrev pub invariant-loop-row : goal.invariant-loop-row
+invariant-loop-row l = l.count ≡ count_of fails (take l.row-index l.rows)
