@@ -7,7 +7,7 @@ use Rattle.study_model.specs.declared.records.Study.{Study}
 use Rattle.spectrum_reader.specs.declared.injection.Injection.{Injection}
 use Rattle.spectrum_reader.specs.declared.level.Level.{Level}
 use Rattle.drill_study.specs.Drill.{drill_of}
-use Rattle.harmscan_core.specs.Report.{report_status}
+use Rattle.study_scans.specs.Report.{report_status}
 use Rattle.limits_report.specs.Report.{limits_status}
 use Rattle.harmscan_core.specs.Words.{Reading, scan, limits, drill, names_in}
 use Rattle.harmscan_core.specs.Subject.{Subject, scanned, distorted, drilled, text_for, status_for, ReadsFor}

@@ -16,27 +16,29 @@ use Rattle.study_model.specs.declared.words.Sequence.TheVariants.{Positive}
 use Rattle.study_model.specs.declared.records.ScanItem.{ScanItem}
 use Rattle.study_model.specs.declared.records.Study.{Study}
 use Rattle.sequence_network.specs.Networks.{network_of}
-use Rattle.study_networks.specs.Networks.{HasLive, IsNetworksRefusal}
+use Rattle.study_networks.specs.Networks.{AreNetworksOf, HasLive, IsNetworksRefusal}
 use Rattle.study_networks.specs.Scanned.{scanned_network}
+use Rattle.study_networks.specs.declared.networks.StudyNetworks.{StudyNetworks}
 use Rattle.study_networks.proofs.Models.{live_sequences}
 use Rattle.study_networks.proofs.Refusals.{no_networks_refusal}
 use Rattle.drill_study.specs.Drill.{drill_scan, drill_of}
 use Rattle.drill_study.proofs.Lawful.{drill_lawful}
 use Rattle.drill_study.proofs.Live.{drill_live}
-use Rattle.harmscan_core.specs.Scan.{boxes_in}
-use Rattle.harmscan_core.specs.Fold.{most_boxes, found_in, nothing_found, status_of, counted_status}
-use Rattle.harmscan_core.specs.Report.{summary_of, report_status, drill_text}
+use Rattle.study_scans.specs.Scan.{boxes_in}
+use Rattle.study_scans.specs.Fold.{most_boxes, found_in, nothing_found, status_of, counted_status}
+use Rattle.study_scans.specs.Report.{summary_of, report_status}
+use Rattle.harmscan_core.specs.Drills.{drill_text}
 use Rattle.harmscan_core.specs.Texts.{summary_text, end_text, drill_head_text, counts_text, counted_text}
-use Rattle.harmscan_core.specs.Plan.{CanScan}
-use Rattle.harmscan_core.specs.Claim.{HoldsOfStudy}
+use Rattle.study_scans.specs.Claim.{HoldsOfStudy}
 use Rattle.harmscan_core.specs.Outcome.{IsReported, Reports, RefusesNetworks, outcome_of_put}
 use Rattle.harmscan_core.specs.Subject.{drilled}
 use Rattle.harmscan_core.specs.declared.files.Refusal.TheVariants as refusal
 use Rattle.harmscan_core.specs.declared.outcome.Outcome.{Outcome}
 use Rattle.harmscan_core.specs.declared.outcome.Outcome.TheVariants.{WordsRefused, ReadFailed, TooLarge, Refused, WriteFailed, NoMemory, Written}
-use Rattle.harmscan_core.proofs.Folds.{summary_is, found_is}
+use Rattle.study_scans.proofs.Folds.{summary_is, found_is}
 use Rattle.harmscan_core.proofs.Written.{not_taken}
-use Rattle.harmscan_core.proofs.StudyFacts.{study_holds, scan_texts, scan_few}
+use Rattle.study_scans.proofs.Boxes.{scan_texts, scan_few}
+use Rattle.study_scans.proofs.Holds.{study_holds}
 
 drill_scans : (number : ℕ) → (drill_of number).scans ≡ drill_scan ∷ []
 unfolding drill_of
@@ -146,21 +148,15 @@ have_texts number boxes same =
     })
 
 -- ---- its report
-can_scan : (number : ℕ) (study : Study) (scan : ScanItem) → study ≡ drill_of number → scan ≡ drill_scan → CanScan study scan → CanScan (drill_of number) drill_scan
-can_scan number study scan same one can = subst (CanScan (drill_of number)) one (subst (λ (s : Study). CanScan s scan) same can)
+drill_holds : (number : ℕ) (study : Study) (networks : StudyNetworks) → study ≡ drill_of number → AreNetworksOf study networks → HoldsOfStudy (drill_of number)
+drill_holds number study networks same are = study_holds (drill_of number) networks (drill_lawful number) (subst (λ (s : Study). AreNetworksOf s networks) same are)
 
-drill_holds : (number : ℕ) → CanScan (drill_of number) drill_scan → HoldsOfStudy (drill_of number)
-drill_holds number can =
-    let study = drill_of number in
-    study_holds study (drill_lawful number) (recursion_from_All (IsLawfulScanOf study) study.scans (drill_lawful number).scans)
-    (subst (AllByRecursion (CanScan study)) (sym (drill_scans number)) (can, tt))
-
-pub drill_reported : (number status : ℕ) (study : Study) (scan : ScanItem) (boxes : List BoxRow) (text : List ℕ) (out out' : SinkState) → study ≡ drill_of number → scan ≡ drill_scan → CanScan study scan
+pub drill_reported : (number status : ℕ) (study : Study) (networks : StudyNetworks) (scan : ScanItem) (boxes : List BoxRow) (text : List ℕ) (out out' : SinkState) → study ≡ drill_of number → scan ≡ drill_scan → AreNetworksOf study networks
     → boxes ≡ boxes_in study scan → status ≡ counted_status boxes → text ≡ drill_text number → out' ≡ took out text → IsReported (drilled number) status out out'
-drill_reported number status study scan boxes text out out' same one can walked shows is wrote = record {
+drill_reported number status study networks scan boxes text out out' same one are walked shows is wrote = record {
   status_is = shows ∙ ap counted_status (boxes_are number study scan boxes same one walked) ∙ drill_status number;
   written = wrote ∙ ap (took out) is;
-  claim = drill_holds number (can_scan number study scan same one can);
+  claim = drill_holds number study networks same are;
 }
 
 pub drill_not_taken : (number : ℕ) (text : List ℕ) (out out' : SinkState) (fault : PutFault) (o : Outcome) → text ≡ drill_text number → Writes {A = ℕ} text out out' (Err fault) → o ≡ outcome_of_put fault

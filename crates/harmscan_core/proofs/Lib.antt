@@ -7,12 +7,8 @@ pub mod Spectra
 pub mod Subjects
 pub mod Causes
 pub mod Complete
-pub mod BoxCount
-pub mod NodeOrderings
-pub mod StudyFacts
 pub mod WholeReport
 pub mod Written
 pub mod Plans
-pub mod Folds
 pub mod Drills
 pub mod Distorted

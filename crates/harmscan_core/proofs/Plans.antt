@@ -11,18 +11,17 @@ use Rattle.scan_report.specs.declared.boxes.BoxRow.{BoxRow}
 use Rattle.study_model.specs.Lawful.{IsLawful, IsLawfulScan}
 use Rattle.study_model.specs.declared.records.ScanItem.{ScanItem}
 use Rattle.study_model.specs.declared.records.Study.{Study}
-use Rattle.harmscan_core.specs.Scan.{boxes_in}
-use Rattle.harmscan_core.specs.Fold.{most_boxes, tallied, no_tally, found_too, found_in, nothing_found, found_over}
+use Rattle.study_scans.specs.Scan.{boxes_in}
+use Rattle.study_scans.specs.Fold.{most_boxes, tallied, no_tally, found_too, found_in, nothing_found, found_over}
 use Rattle.harmscan_core.specs.Texts.{scan_text, scans_text}
-use Rattle.harmscan_core.specs.Plan.{CanScan, IsPlanned, IsPlan}
-use Rattle.harmscan_core.specs.declared.counts.Counts.{Counts}
-use Rattle.harmscan_core.specs.declared.counts.Found.{Found}
-use Rattle.harmscan_core.specs.declared.plan.PlannedScan.{PlannedScan}
-use Rattle.harmscan_core.proofs.StudyFacts.{scan_texts, scan_few}
-use Rattle.harmscan_core.proofs.Folds.{found_is}
-
-abbrev pub scans_of : {E : Type 0} → List (PlannedScan E) → List ScanItem
-scans_of plan = map (λ planned. planned.scan) plan
+use Rattle.study_scans.specs.Plan.{IsPlanned, IsPlan}
+use Rattle.study_scans.specs.declared.counts.Counts.{Counts}
+use Rattle.study_scans.specs.declared.counts.Found.{Found}
+use Rattle.study_scans.specs.declared.plan.PlannedScan.{PlannedScan}
+use Rattle.study_scans.proofs.Boxes.{scan_texts, scan_few}
+use Rattle.study_scans.proofs.Folds.{found_is}
+use Rattle.study_scans.proofs.Plans.{scans_of}
+use Rattle.study_scans.proofs.Walks.{walk_boxes}
 
 -- the rows of the scans before this plan were written, and this was found in them
 pub record Putting {E : Type 0} (study : Study) (plan : List (PlannedScan E)) (found : Found) (before now : SinkState) : Type 0 where
@@ -50,7 +49,7 @@ pub putting_first : {E : Type 0} (study : Study) (plan : List (PlannedScan E)) (
     → plan ≡ planned ∷ rest → Putting study plan found before now → Next study planned
 putting_first {E} study plan planned rest found before now lawful e p =
     let q = subst (λ (l : List (PlannedScan E)). Putting study l found before now) e p in
-    let boxes : planned.walk.left ≡ boxes_in study planned.scan = q.each.0.boxes in
+    let boxes : planned.walk.left ≡ boxes_in study planned.scan = walk_boxes study planned.scan planned.walk q.each.0 in
     record {
       lawful = q.lawful.0;
       boxes = boxes;
@@ -84,44 +83,3 @@ pub putting_end : {E : Type 0} (study : Study) (plan : List (PlannedScan E)) (fo
     → (now ≡ took before (scans_text study study.scans)) × (found ≡ found_over study)
 putting_end {E} study plan found before now e p =
     let q = subst (λ (l : List (PlannedScan E)). Putting study l found before now) e p in (front_end before now (scans_text study study.scans) q.wrote, q.counts)
-
--- each scan of a plan can be scanned
-planned_can : {E : Type 0} (study : Study) (plan : List (PlannedScan E)) → AllByRecursion (IsPlanned study) plan → AllByRecursion (CanScan study) (scans_of plan)
-planned_can study [] h = tt
-planned_can study (planned ∷ plan) h = (h.0.can, planned_can study plan h.1)
-
-pub plan_can : {E : Type 0} (study : Study) (plan : List (PlannedScan E)) → IsPlan study plan → AllByRecursion (CanScan study) study.scans
-plan_can {E} study plan is = subst (AllByRecursion (CanScan study)) is.scans (planned_can study plan is.each)
-
--- ---- the making of a plan
--- the scans before this one are planned
-pub record Planning {E : Type 0} (study : Study) (plan : List (PlannedScan E)) (scans : List ScanItem) (i : ℕ) : Type 0 where
-  pub before : scans_of plan ++ drop i scans ≡ scans
-  pub each : AllByRecursion (IsPlanned study) plan
-
-scans_of_more : {E : Type 0} (plan : List (PlannedScan E)) (planned : PlannedScan E) (rest : List ScanItem) → scans_of (plan ++ planned ∷ []) ++ rest ≡ scans_of plan ++ planned.scan ∷ rest
-scans_of_more [] planned rest = refl
-scans_of_more (p ∷ plan) planned rest = ap (λ (l : List ScanItem). p.scan ∷ l) (scans_of_more plan planned rest)
-
-each_more : {E : Type 0} (study : Study) (plan : List (PlannedScan E)) (planned : PlannedScan E) → AllByRecursion (IsPlanned study) plan → IsPlanned study planned → AllByRecursion (IsPlanned study) (plan ++ planned ∷ [])
-each_more study [] planned h p = (p, tt)
-each_more study (q ∷ plan) planned h p = (h.0, each_more study plan planned h.1 p)
-
-pub planning_next : {E : Type 0} (study : Study) (plan : List (PlannedScan E)) (planned : PlannedScan E) (scans : List ScanItem) (i : ℕ) (scan : ScanItem) → i < length scans → scan ≡ get_or scans i scan
-    → planned.scan ≡ scan → IsPlanned study planned → Planning study plan scans i → Planning study (plan ++ planned ∷ []) scans (i + 1)
-planning_next study plan planned scans i scan inside there is can p =
-    let next : suc i ≡ i + 1 = omega arith in
-    let rest : drop i scans ≡ scan ∷ drop (i + 1) scans
-    = drop-cons scans i scan inside ∙ ap (λ (x : ScanItem). x ∷ drop (suc i) scans) (sym there) ∙ ap (λ (k : ℕ). scan ∷ drop k scans) next in
-    record {
-      before = scans_of_more plan planned (drop (i + 1) scans) ∙ ap (λ (x : ScanItem). scans_of plan ++ x ∷ drop (i + 1) scans) is ∙ sym (ap (λ (l : List ScanItem). scans_of plan ++ l) rest) ∙ p.before;
-      each = each_more study plan planned p.each can;
-    }
-
-pub planning_end : {E : Type 0} (study : Study) (plan : List (PlannedScan E)) (scans : List ScanItem) (i : ℕ) → i ≡ length scans → scans ≡ study.scans → Planning study plan scans i → IsPlan study plan
-planning_end study plan scans i last same p =
-    let past : length scans ≤ i = omega (arith, last) in
-    record {
-      scans = sym (append-nil (scans_of plan)) ∙ sym (ap (λ (l : List ScanItem). scans_of plan ++ l) (drop_all i scans past)) ∙ p.before ∙ same;
-      each = p.each;
-    }

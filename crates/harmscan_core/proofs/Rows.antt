@@ -1,25 +1,20 @@
 -- Rows that are written one after another.
 use Rattle.std.proofs.Common.{◌≡◌, ◌∙◌, ℕ, ◌+◌, ◌≤◌, ℤ, Bool, true, false, int_lt, List, [], ◌∷◌, ◌++◌, Option, Some, None, Result, Err, ap, sym, refl, subst, append_assoc, append-nil, arith}
-use Rattle.std.specs.Prelude.{if◌then◌else◌}
 use Rattle.harm_io.specs.Sinks.{SinkState, took, Writes}
 use Rattle.harm_io.proofs.Writing.{WroteFront, front_next, front_stop, front_end, took_nothing}
 use Rattle.harm_io.specs.declared.sink.PutFault.{PutFault}
-use Rattle.scan_report.specs.Rows.{row_text, IsOhms}
+use Rattle.scan_report.specs.Rows.{row_text}
 use Rattle.scan_report.specs.declared.rows.Row.{Row}
 use Rattle.scan_report.specs.declared.boxes.BoxRow.{BoxRow}
 use Rattle.scan_report.specs.declared.boxes.Kind.{Kind}
 use Rattle.scan_report.specs.declared.boxes.Kind.TheVariants.{Cleared, Peak, Undecided}
-use Rattle.band_subdivision.specs.BoxText.{HasText}
-use Rattle.harmscan_core.specs.Regions.{ohms_of_summit, row_of_region}
+use Rattle.study_scans.specs.Regions.{row_of_region}
 use Rattle.scan_report.specs.Reading.{text_of}
-use Rattle.harmscan_core.specs.Report.{row_of}
-use Rattle.harmscan_core.specs.Fold.{better, reaching, with_kind, joined, count_more, ended_by, tally_more, open_rows, ended_rows, folded_rows}
-use Rattle.harmscan_core.specs.Tallies.{IsRun, IsTally}
+use Rattle.study_scans.specs.Report.{row_of}
+use Rattle.study_scans.specs.Fold.{tally_more, open_rows, ended_rows, folded_rows}
 use Rattle.harmscan_core.specs.Texts.{open_text, ended_text, step_text, boxes_text}
-use Rattle.harmscan_core.specs.declared.counts.Counts.{Counts}
-use Rattle.harmscan_core.specs.declared.counts.Tally.{Tally}
-use Rattle.harmscan_core.specs.declared.region.Region.{Region}
-use Rattle.harmscan_core.specs.declared.region.Summit.{Summit}
+use Rattle.study_scans.specs.declared.counts.Tally.{Tally}
+use Rattle.study_scans.specs.declared.region.Region.{Region}
 
 pub text_of-both : (xs ys : List Row) → text_of (xs ++ ys) ≡ text_of xs ++ text_of ys
 text_of-both [] ys = refl
@@ -85,41 +80,3 @@ pub end_stop : (A B : Type 0) (before now after : SinkState) (hz : ℤ) (t : Tal
     → Writes {A = A} (open_text hz t.regions t.run) now after (Err fault) → Writes {A = B} whole before after (Err fault)
 end_stop A B before now after hz t left whole fault e h w =
     front_stop A B before now after (open_text hz t.regions t.run) [] whole fault (front_of_end before now hz t left whole e h) w
-
--- ---- what a tally keeps
-pub record Counts≤ (c d : Counts) : Type 0 where
-  pub boxes : d.boxes ≡ c.boxes + 1
-  pub cleared : d.cleared ≤ c.cleared + 1
-  pub peaks : d.peaks ≤ c.peaks + 1
-  pub undecided : d.undecided ≤ c.undecided + 1
-
-pub count_grows : (k : Kind) (c : Counts) → Counts≤ c (count_more k c)
-count_grows Cleared c = record { boxes = refl; cleared = omega arith; peaks = omega arith; undecided = omega arith }
-count_grows (Peak at ohms) c = record { boxes = refl; cleared = omega arith; peaks = omega arith; undecided = omega arith }
-count_grows Undecided c = record { boxes = refl; cleared = omega arith; peaks = omega arith; undecided = omega arith }
-
-better_ohms : (first : Option Summit) (second : Summit) → IsOhms (ohms_of_summit first) → IsOhms (Some second.micro_ohms) → IsOhms (Some (better first second).micro_ohms)
-better_ohms None second h k = k
-better_ohms (Some first) second h k = pick (int_lt first.micro_ohms second.micro_ohms)
-  where
-    pick : (b : Bool) → IsOhms (Some (if b then second else first).micro_ohms)
-    pick true = k
-    pick false = h
-
-run_grows : (n regions : ℕ) (run : Option Region) (lo hi : ℕ) (kind : Kind) → HasText (record { lo = lo; hi = hi; kind = kind }) → IsRun n regions run → IsRun (n + 1) (ended_by regions run kind) (with_kind (reaching run lo hi) kind)
-run_grows n regions None lo hi Cleared t h = omega (arith, h)
-run_grows n regions None lo hi (Peak at ohms) t h = (omega (arith, h), omega arith, omega arith, t)
-run_grows n regions None lo hi Undecided t h = (omega (arith, h), omega arith, omega arith, tt)
-run_grows n regions (Some run) lo hi Cleared t h = omega (arith, h.0)
-run_grows n regions (Some run) lo hi (Peak at ohms) t h = (omega (arith, h.0), omega (arith, h.1), omega (arith, h.2), better_ohms run.summit (record { at = at; micro_ohms = ohms }) h.3 t)
-run_grows n regions (Some run) lo hi Undecided t h = (omega (arith, h.0), omega (arith, h.1), omega (arith, h.2), h.3)
-
-pub tally_grows : (b : BoxRow) (t : Tally) → HasText b → IsTally t → IsTally (tally_more b t)
-tally_grows b t h k =
-    let counts : Counts≤ t.counts (count_more b.kind t.counts) = count_grows b.kind t.counts in
-    record {
-      cleared = omega (arith, counts.boxes, counts.cleared, k.cleared);
-      peaks = omega (arith, counts.boxes, counts.peaks, k.peaks);
-      undecided = omega (arith, counts.boxes, counts.undecided, k.undecided);
-      run = subst (λ n. IsRun n (ended_by t.regions t.run b.kind) (joined t.run b)) (sym counts.boxes) (run_grows t.counts.boxes t.regions t.run b.lo b.hi b.kind h k.run);
-    }

@@ -5,12 +5,12 @@ use Rattle.scan_report.specs.declared.rows.Row.{Row}
 use Rattle.scan_report.specs.declared.rows.Row.TheVariants.{End}
 use Rattle.study_model.specs.declared.records.ScanItem.{ScanItem}
 use Rattle.study_model.specs.declared.records.Study.{Study}
-use Rattle.harmscan_core.specs.Scan.{boxes_in}
+use Rattle.study_scans.specs.Scan.{boxes_in}
 use Rattle.scan_report.specs.Reading.{text_of}
-use Rattle.harmscan_core.specs.Regions.{parts_of}
-use Rattle.harmscan_core.specs.Report.{rows_of_parts, head_row, summary_of, scan_rows, report_status, rows_of_scans, report_text}
-use Rattle.harmscan_core.specs.Fold.{folded_rows, no_tally}
-use Rattle.harmscan_core.proofs.Folds.{rows_are, summary_is}
+use Rattle.study_scans.specs.Regions.{parts_of}
+use Rattle.study_scans.specs.Report.{rows_of_parts, head_row, summary_of, scan_rows, report_status, rows_of_scans, report_text}
+use Rattle.study_scans.specs.Fold.{folded_rows, no_tally}
+use Rattle.study_scans.proofs.Folds.{rows_are, summary_is}
 use Rattle.harmscan_core.proofs.Rows.{text_of-both}
 use Rattle.harmscan_core.specs.Texts.{head_text, boxes_text, summary_text, end_text, body_text, scan_text, scans_text, whole_text}
 

@@ -1,28 +1,26 @@
 -- What a report that was put says.
 use Rattle.std.proofs.Common.{◌≡◌, ◌∙◌, inr, ℕ, List, Err, ap, sym, subst}
-use Rattle.std.proofs.lemmas.List.Elements.{recursion_from_All}
 use Rattle.harm_io.specs.Sinks.{SinkState, took, Writes}
 use Rattle.harm_io.specs.declared.sink.PutFault.{PutFault}
 use Rattle.harm_io.specs.declared.sink.PutFault.TheVariants.{Failed, NoMemory}
-use Rattle.study_model.specs.Lawful.{IsLawful, IsLawfulScan}
+use Rattle.study_model.specs.Lawful.{IsLawful}
 use Rattle.study_model.specs.declared.records.Study.{Study}
-use Rattle.harmscan_core.specs.Report.{report_status}
+use Rattle.study_networks.specs.Networks.{AreNetworksOf}
+use Rattle.study_networks.specs.declared.networks.StudyNetworks.{StudyNetworks}
+use Rattle.study_scans.specs.Report.{report_status}
 use Rattle.harmscan_core.specs.Subject.{Subject, scanned, text_for}
 use Rattle.harmscan_core.specs.Texts.{whole_text}
 use Rattle.harmscan_core.specs.Outcome.{IsReported, Reports, outcome_of_put}
 use Rattle.harmscan_core.specs.declared.outcome.Outcome.{Outcome}
-use Rattle.harmscan_core.specs.Plan.{IsPlan}
-use Rattle.harmscan_core.specs.declared.plan.PlannedScan.{PlannedScan}
-use Rattle.harmscan_core.proofs.StudyFacts.{study_holds}
-use Rattle.harmscan_core.proofs.Plans.{plan_can}
+use Rattle.study_scans.proofs.Holds.{study_holds}
 use Rattle.harmscan_core.proofs.WholeReport.{whole_report}
 
-pub is_reported : {E : Type 0} (study : Study) (plan : List (PlannedScan E)) (status : ℕ) (out out' : SinkState) → IsLawful study → IsPlan study plan → status ≡ report_status study
+pub is_reported : (study : Study) (networks : StudyNetworks) (status : ℕ) (out out' : SinkState) → IsLawful study → AreNetworksOf study networks → status ≡ report_status study
     → out' ≡ took out (whole_text study (report_status study)) → IsReported (scanned study) status out out'
-is_reported study plan status out out' lawful is shows wrote = record {
+is_reported study networks status out out' lawful are shows wrote = record {
   status_is = shows;
   written = wrote ∙ ap (took out) (whole_report study);
-  claim = study_holds study lawful (recursion_from_All (IsLawfulScan study.version study.model study.buses) study.scans lawful.scans) (plan_can study plan is);
+  claim = study_holds study networks lawful are;
 }
 
 -- a report that wasn't taken whole

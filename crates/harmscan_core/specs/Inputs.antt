@@ -6,7 +6,7 @@ use Rattle.spectrum_reader.specs.declared.injection.Spectrum.{Spectrum}
 use Rattle.spectrum_reader.specs.declared.level.Levels.{Levels}
 use Rattle.study_model.specs.declared.records.Study.{Study}
 use Rattle.harmscan_core.specs.Subject.{Subject, distorted}
-use Rattle.harmscan_core.specs.declared.plan.AcceptedStudy.{AcceptedStudy}
+use Rattle.harmscan_core.specs.declared.inputs.AcceptedStudy.{AcceptedStudy}
 use Rattle.harmscan_core.specs.declared.inputs.Inputs.{Inputs}
 use Rattle.harmscan_core.specs.declared.outcome.Outcome.{Outcome}
 

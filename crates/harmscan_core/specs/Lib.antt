@@ -1,11 +1,5 @@
-pub mod Scan
-pub mod Regions
-pub mod Tallies
-pub mod Fold
-pub mod Report
+pub mod Drills
 pub mod Texts
-pub mod Plan
-pub mod Claim
 pub mod Accepted
 pub mod Words
 pub mod Lines

@@ -9,9 +9,10 @@ use Rattle.drill_study.specs.Drill.{drill_of}
 use Rattle.limits_report.specs.Claim.{HoldsOfLimits}
 use Rattle.limits_report.specs.Report.{limits_rows_of, limits_status}
 use Rattle.harmscan_core.specs.Accepted.{IsAccepted, RefusesStudy, IsSpectrum, RefusesSpectrum, AreLevels, RefusesLevels}
-use Rattle.harmscan_core.specs.Claim.{HoldsOfStudy}
+use Rattle.study_scans.specs.Claim.{HoldsOfStudy}
 use Rattle.harmscan_core.specs.Files.{Reads, TellsFile, Gives, Then}
-use Rattle.harmscan_core.specs.Report.{report_text, report_status, drill_text}
+use Rattle.study_scans.specs.Report.{report_text, report_status}
+use Rattle.harmscan_core.specs.Drills.{drill_text}
 use Rattle.harmscan_core.specs.Words.{Reading, scan, limits, drill}
 use Rattle.harmscan_core.specs.declared.files.File.{File}
 use Rattle.harmscan_core.specs.declared.files.File.TheVariants as file

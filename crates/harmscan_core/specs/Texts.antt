@@ -6,12 +6,12 @@ use Rattle.scan_report.specs.declared.boxes.BoxRow.{BoxRow}
 use Rattle.study_model.specs.declared.records.ScanItem.{ScanItem}
 use Rattle.study_model.specs.declared.records.Study.{Study}
 use Rattle.scan_report.specs.declared.boxes.Kind.{Kind}
-use Rattle.harmscan_core.specs.declared.counts.Tally.{Tally}
-use Rattle.harmscan_core.specs.declared.region.Region.{Region}
+use Rattle.study_scans.specs.declared.counts.Tally.{Tally}
+use Rattle.study_scans.specs.declared.region.Region.{Region}
 use Rattle.scan_report.specs.Reading.{text_of}
-use Rattle.harmscan_core.specs.Report.{row_of, head_row}
-use Rattle.harmscan_core.specs.Fold.{open_rows, ended_rows, folded_rows, folded_summary, tallied, no_tally, counted_status}
-use Rattle.harmscan_core.specs.Scan.{boxes_in}
+use Rattle.study_scans.specs.Report.{row_of, head_row}
+use Rattle.study_scans.specs.Fold.{open_rows, ended_rows, folded_rows, folded_summary, tallied, no_tally, counted_status}
+use Rattle.study_scans.specs.Scan.{boxes_in}
 
 -- a scan's first row
 unfoldable pub head_text : Study → ScanItem → List ℕ

@@ -5,7 +5,6 @@ ghost use Rattle.scan_report.specs.Reading.{text_of};
 ghost use Rattle.scan_report.specs.Rows.{HaveText, fields_of};
 ghost use Rattle.study_model.specs.Lawful.{IsLawful};
 ghost use Rattle.spectrum_reader.specs.Lawful.{IsLawfulSpectrum};
-ghost use Rattle.harmonic_injection.specs.Paths.{HavePaths};
 ghost use Rattle.harmscan_core.specs.Inputs.{subject_in};
 ghost use Rattle.harmscan_core.specs.Outcome.{Reports};
 ghost use Rattle.study_networks.specs.Networks.{AreNetworksOf};
@@ -40,7 +39,6 @@ pub fn report_limits<O: Sink>(alloc: Global, inputs: &Inputs, out: &mut O) -> Ou
     requires study { IsLawful inputs.now.accepted.study }
     requires networks { AreNetworksOf inputs.now.accepted.study inputs.now.accepted.networks }
     requires lawful { IsLawfulSpectrum inputs.now.accepted.study inputs.now.spectrum.rows }
-    requires paths { HavePaths inputs.now.accepted.study inputs.now.spectrum.rows }
     ensures { Reports (subject_in inputs.now) (O.state out.old) (O.state out.new) result }
 {
     let accepted = &inputs.accepted;

@@ -4,16 +4,14 @@ ghost use Rattle.std.specs.List.{AllByRecursion};
 ghost use Rattle.band_subdivision.specs.BoxText.{HasText};
 ghost use Rattle.harm_io.specs.Sinks.{Writes};
 ghost use Rattle.drill_study.specs.Drill.{drill_of};
-ghost use Rattle.harmscan_core.specs.Fold.{most_boxes, tallied, no_tally, counted_status};
+ghost use Rattle.study_scans.specs.Fold.{most_boxes, counted_status};
 ghost use Rattle.harmscan_core.specs.Outcome.{Reports};
 ghost use Rattle.study_networks.specs.Networks.{AreNetworksOf};
 ghost use Rattle.harmscan_core.specs.Subject.{drilled};
 ghost use Rattle.harmscan_core.specs.Texts.{drill_head_text, counts_text, counted_text};
 
-use crate::counts::{Found, Tally, tally_more};
 use crate::outcome::{Outcome, after_put};
 use crate::report::{put_end, put_line, put_summary};
-use crate::scan::walk_of;
 use band_subdivision::Scan;
 use complex_interval::{Enclosure, Span};
 use drill_study::drill_scan;
@@ -22,20 +20,7 @@ use scan_report::{LineBuf, Row, drill_row};
 use std::alloc::Global;
 use study_model::{ScanItem, Study};
 use study_networks::{StudyNetworks, scanned_network};
-
-/// Counts all boxes of a walk.
-fn tally_of<E: Enclosure>(walk: &mut Scan<E>) -> Tally
-    requires text { AllByRecursion HasText walk.old.left }
-    requires few { length walk.old.left < most_boxes }
-    ensures tally { result ≡ tallied no_tally walk.old.left }
-    ensures room { result.regions < most_boxes }
-{
-    let mut tally = Tally::NONE;
-    'boxes: while let Some(found) = walk.next_box() {
-        tally = tally_more(tally, &found);
-    }
-    tally
-}
+use study_scans::{Found, tally_of, walk_of};
 
 /// Puts the first row of a drill, whose network has so many nodes.
 #[tactic(auto, unfolding(crate::specs::Texts::drill_head_text))]
@@ -52,7 +37,7 @@ fn put_drill_head<O: Sink>(
 }
 
 /// Puts the last row of a scan by its walk, without the rows of its boxes, and the last row of a report, and answers its status.
-#[tactic(auto, unfolding(crate::specs::Texts::counts_text, crate::specs::Fold::counted_status), using(harm_io::proofs::Writing::second_piece))]
+#[tactic(auto, unfolding(crate::specs::Texts::counts_text, study_scans::specs::Fold::counted_status), using(harm_io::proofs::Writing::second_piece))]
 fn put_counts<E: Enclosure, O: Sink>(
     scan: &ScanItem,
     walk: &mut Scan<E>,

@@ -4,7 +4,6 @@ ghost use Rattle.study_model.specs.Lawful.{IsLawful};
 ghost use Rattle.study_networks.specs.Networks.{AreNetworksOf, HasLive};
 ghost use Rattle.spectrum_reader.specs.Lawful.{IsLawfulSpectrum};
 ghost use Rattle.spectrum_reader.specs.declared.level.Level.{Level};
-ghost use Rattle.harmonic_injection.specs.Paths.{HavePaths};
 ghost use Rattle.harmscan_core.specs.Accepted.{AreLevels, RefusesLevels};
 ghost use Rattle.harmscan_core.specs.Files.{Reads};
 ghost use Rattle.harmscan_core.specs.Inputs.{study_alone, injections_in, levels_in, subject_of};
@@ -16,7 +15,6 @@ ghost use Rattle.harmscan_core.specs.declared.files.File.TheVariants as file;
 use crate::files::File;
 use crate::limits::LONGEST_FILE;
 use crate::outcome::{Outcome, after_fault, after_fetch, after_levels_fault, after_spectrum_fault};
-use crate::plan::AcceptedStudy;
 use harm_io::Shelf;
 use harmonic_injection::check_paths;
 use spectrum_reader::{Levels, Spectrum, read_levels, read_spectrum};
@@ -25,6 +23,13 @@ use std::alloc::Global;
 use study_model::Study;
 use study_networks::{StudyNetworks, study_networks};
 use study_reader::read_study;
+
+/// A study that is accepted, with its networks.
+#[derive(Drop)]
+pub struct AcceptedStudy {
+    pub study: Study,
+    pub networks: StudyNetworks,
+}
 
 /// What `limits` reads: a study that is accepted, a spectrum each of whose currents has a path where the study's model asks for it, and
 /// planning levels, none where the words name no file of them.
@@ -86,7 +91,6 @@ fn spectrum_from<F: Shelf>(
     requires live { HasLive study.now }
     ensures read { SpectrumBy Reads study.now name.now (F.state shelf.old) (F.state shelf.new) (injections_in result) }
     ensures lawful { IfOk result (λ spectrum. IsLawfulSpectrum study.now spectrum.rows) }
-    ensures paths { IfOk result (λ spectrum. HavePaths study.now spectrum.rows) }
 {
     let bytes = match shelf.fetch(alloc, name, LONGEST_FILE) {
         Ok(bytes) => bytes,
@@ -153,7 +157,6 @@ pub fn inputs_from<F: Shelf>(
     ensures networks { IfOk result (λ inputs. AreNetworksOf inputs.accepted.study inputs.accepted.networks) }
     ensures live { IfOk result (λ inputs. HasLive inputs.accepted.study) }
     ensures lawful { IfOk result (λ inputs. IsLawfulSpectrum inputs.accepted.study inputs.spectrum.rows) }
-    ensures paths { IfOk result (λ inputs. HavePaths inputs.accepted.study inputs.spectrum.rows) }
 {
     let accepted = match study_from(alloc, study, shelf) {
         Ok(accepted) => accepted,

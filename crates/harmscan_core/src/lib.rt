@@ -1,7 +1,6 @@
 // From the words of the command line to the report.
 #![tactic(auto)]
 
-mod counts;
 mod distortion;
 mod drill;
 mod files;
@@ -10,10 +9,7 @@ mod limits;
 mod lines;
 mod outcome;
 mod perform;
-mod plan;
-mod region;
 mod report;
-mod scan;
 mod words;
 
 pub use files::{File, Refusal};

@@ -15,7 +15,6 @@ use crate::inputs::{accepted_networks, inputs_from, study_from};
 use crate::lines::say;
 use crate::outcome::{Outcome, after_put, after_words, status};
 use crate::report::put_report;
-use crate::scan::plan_of;
 use crate::words::{Command, reading};
 use complex_interval::{Enclosure, Span};
 use drill_study::drill_study;
@@ -25,6 +24,7 @@ use std::io;
 use std::io::ErrorKind;
 use study_model::Study;
 use study_networks::StudyNetworks;
+use study_scans::plan_of;
 
 /// The report of a study at its scale: all walks are made before its first line is put.
 #[tactic(auto, using(crate::proofs::Written::not_reported))]

@@ -5,31 +5,30 @@ ghost use Rattle.band_subdivision.specs.BoxText.{HasText};
 ghost use Rattle.harm_io.specs.Sinks.{Writes};
 ghost use Rattle.scan_report.specs.Rows.{row_text};
 ghost use Rattle.study_model.specs.Lawful.{IsLawful, IsLawfulScan};
-ghost use Rattle.harmscan_core.specs.Scan.{boxes_in};
+ghost use Rattle.study_scans.specs.Scan.{boxes_in};
 ghost use Rattle.harmscan_core.specs.Texts.{head_text, open_text, ended_text, step_text, boxes_text, summary_text, end_text, body_text, scan_text, scans_text, whole_text};
-ghost use Rattle.harmscan_core.specs.Plan.{IsPlan};
-ghost use Rattle.harmscan_core.specs.Report.{row_of, net_of, report_status};
-ghost use Rattle.harmscan_core.specs.Fold.{most_boxes, tallied, no_tally, found_over};
-ghost use Rattle.harmscan_core.specs.Regions.{order_of_summit, ohms_of_summit, row_of_region};
-ghost use Rattle.harmscan_core.specs.Tallies.{IsTally};
+ghost use Rattle.study_scans.specs.Plan.{IsPlan};
+ghost use Rattle.study_scans.specs.Report.{row_of, report_status};
+ghost use Rattle.study_scans.specs.Fold.{most_boxes, tallied, no_tally, found_over};
+ghost use Rattle.study_scans.specs.Regions.{ohms_of_summit, row_of_region};
+ghost use Rattle.study_scans.specs.Tallies.{IsTally};
 ghost use Rattle.scan_report.specs.Rows.{IsOhms};
 ghost use Rattle.study_model.specs.Range.{IsIn};
 ghost use Rattle.study_model.specs.declared.range.TheConstants.Range.{HERTZ};
 
-use crate::counts::{Counts, Found, Tally, all_regions, tally_more};
-use crate::plan::PlannedScan;
-use crate::region::{Region, Summit, hertz_down, hertz_up};
-use crate::scan::micro;
 use band_subdivision::Scan;
 use complex_interval::Enclosure;
 use fixed_decimal::Decimal;
 use harm_io::{PutFault, Sink};
 use scan_report::{
-    BoxRow, BoxWord, Kind, LineBuf, NetWord, Row, box_row, end_row, region_row, scan_row,
-    summary_row,
+    BoxRow, Kind, LineBuf, Row, box_row, end_row, region_row, scan_row, summary_row,
 };
 use std::collections::VecDeque;
-use study_model::{Phase, ScanItem, Sequence, Study};
+use study_model::{ScanItem, Study};
+use study_scans::{
+    Counts, Found, PlannedScan, Region, Tally, head_row, row_of_box, row_of_region, summary_of,
+    tally_more,
+};
 
 /// Puts a line.
 #[tactic(auto, using(harm_io::proofs::Writing::writes_put))]
@@ -37,24 +36,6 @@ pub fn put_line<O: Sink>(out: &mut O, line: &LineBuf) -> Result<(), PutFault>
     ensures { Writes line.now (O.state out.old) (O.state out.new) result }
 {
     out.put(line.as_bytes())
-}
-
-fn row_for(number: u32, found: &BoxRow) -> Row
-    ensures { result ≡ row_of number found.now.lo found.now.hi found.now.kind }
-{
-    let (word, at, micro_ohms) = match found.kind {
-        Kind::Cleared => (BoxWord::Cleared, None, None),
-        Kind::Peak { at, micro_ohms } => (BoxWord::Peak, Some(at), Some(micro_ohms)),
-        Kind::Undecided => (BoxWord::Undecided, None, None),
-    };
-    Row::BoxLine {
-        number,
-        lo: found.lo,
-        hi: found.hi,
-        word,
-        at,
-        micro_ohms,
-    }
 }
 
 /// Puts the row of a box.
@@ -67,44 +48,8 @@ fn put_box<O: Sink>(
     requires { HasText found.now }
     ensures { Writes (row_text (row_of number found.now.lo found.now.hi found.now.kind)) (O.state out.old) (O.state out.new) result }
 {
-    box_row(&row_for(number, found), line);
+    box_row(&row_of_box(number, found), line);
     put_line(out, line)
-}
-
-fn order_of(summit: Option<Summit>) -> Option<u32>
-    ensures { result ≡ order_of_summit summit }
-{
-    match summit {
-        Some(summit) => Some(summit.at),
-        None => None,
-    }
-}
-
-fn ohms_of(summit: Option<Summit>) -> Option<i128>
-    ensures { result ≡ ohms_of_summit summit }
-{
-    match summit {
-        Some(summit) => Some(summit.micro_ohms),
-        None => None,
-    }
-}
-
-/// The row of a region, by its number.
-fn region_for(hz: Decimal, number: u32, run: &Region) -> Row
-    requires { IsIn HERTZ hz }
-    ensures { result ≡ row_of_region hz number run.now }
-{
-    Row::Region {
-        number,
-        lo: run.lo,
-        hi: run.hi,
-        hertz_lo: hertz_down(run.lo, hz),
-        hertz_hi: hertz_up(run.hi, hz),
-        peaks: run.peaks,
-        undecided: run.undecided,
-        at: order_of(run.summit),
-        micro_ohms: ohms_of(run.summit),
-    }
 }
 
 /// Puts the row of a region.
@@ -119,7 +64,7 @@ fn put_region<O: Sink>(
     requires ohms { IsOhms (ohms_of_summit run.now.summit) }
     ensures { Writes (row_text (row_of_region hz number run.now)) (O.state out.old) (O.state out.new) result }
 {
-    region_row(&region_for(hz, number, run), line);
+    region_row(&row_of_region(hz, number, run), line);
     put_line(out, line)
 }
 
@@ -223,15 +168,7 @@ pub fn put_summary<O: Sink>(
     ensures wrote { Writes (summary_text scan.now tally) (O.state out.old) (O.state out.new) result }
     ensures counts { IfOk result (λ c. c ≡ tally.counts) }
 {
-    let row = Row::Summary {
-        name: scan.name,
-        boxes: tally.counts.boxes,
-        cleared: tally.counts.cleared,
-        peaks: tally.counts.peaks,
-        undecided: tally.counts.undecided,
-        regions: all_regions(tally.regions, tally.run),
-    };
-    summary_row(&row, line);
+    summary_row(&summary_of(scan, tally), line);
     match put_line(out, line) {
         Ok(()) => Ok(tally.counts),
         Err(fault) => Err(fault),
@@ -256,22 +193,8 @@ pub fn put_end<O: Sink>(status: u8, line: &mut LineBuf, out: &mut O) -> Result<u
     }
 }
 
-fn net_word(network: Sequence, phase: Option<Phase>) -> NetWord
-    ensures { result ≡ net_of network phase }
-{
-    match phase {
-        Some(Phase::A) => NetWord::A,
-        Some(Phase::B) => NetWord::B,
-        Some(Phase::C) => NetWord::C,
-        None => match network {
-            Sequence::Positive => NetWord::Positive,
-            Sequence::Zero => NetWord::Zero,
-        },
-    }
-}
-
 /// Puts a scan's first row.
-#[tactic(auto, unfolding(crate::specs::Texts::head_text), using(crate::proofs::StudyFacts::threshold_above))]
+#[tactic(auto, unfolding(crate::specs::Texts::head_text), using(study_scans::proofs::Asked::threshold_above))]
 fn put_head<O: Sink>(
     study: &Study,
     scan: &ScanItem,
@@ -281,16 +204,7 @@ fn put_head<O: Sink>(
     requires scan { IsLawfulScan study.now.version study.now.model study.now.buses scan.now }
     ensures { Writes (head_text study.now scan.now) (O.state out.old) (O.state out.new) result }
 {
-    let row = Row::Scan {
-        name: scan.name,
-        bus: study.buses.as_slice()[scan.bus as usize].name,
-        network: net_word(scan.network, scan.phase),
-        from: micro(scan.from),
-        to: micro(scan.to),
-        threshold: scan.threshold,
-        method: study.method,
-    };
-    scan_row(&row, line);
+    scan_row(&head_row(study, scan), line);
     put_line(out, line)
 }
 
@@ -362,7 +276,7 @@ fn put_scans<E: Enclosure, O: Sink>(
 }
 
 /// Puts the report of a study by the plan of its scans, and answers the status.
-#[tactic(auto, unfolding(crate::specs::Texts::whole_text, crate::specs::Report::report_status), using(harm_io::proofs::Writing::second_piece))]
+#[tactic(auto, unfolding(crate::specs::Texts::whole_text, study_scans::specs::Report::report_status), using(harm_io::proofs::Writing::second_piece))]
 pub fn put_report<E: Enclosure, O: Sink>(
     study: &Study,
     plan: &mut VecDeque<PlannedScan<E>>,

@@ -1,9 +1,9 @@
 use Rattle.std.proofs.Common.{ℕ, Err, subst}
 use Rattle.harm_io.specs.Sinks.{Writes}
 use Rattle.harm_io.proofs.Writing.{writes_stop}
-use Rattle.harmscan_core.specs.declared.counts.Counts.{Counts}
-use Rattle.harmscan_core.specs.declared.counts.Tally.{Tally}
-use Rattle.harmscan_core.specs.Fold.{tallied, no_tally, counted_status}
+use Rattle.study_scans.specs.declared.counts.Counts.{Counts}
+use Rattle.study_scans.specs.declared.counts.Tally.{Tally}
+use Rattle.study_scans.specs.Fold.{tallied, no_tally, counted_status}
 use Rattle.harmscan_core.specs.Texts.{counts_text, summary_text, end_text}
 use Rattle.harmscan_core.proofs.drill.put_counts.Goals as goal
 

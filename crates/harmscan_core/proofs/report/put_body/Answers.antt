@@ -1,7 +1,7 @@
 use Rattle.harm_io.proofs.Writing.{writes_stop}
-use Rattle.harmscan_core.specs.declared.counts.Counts.{Counts}
-use Rattle.harmscan_core.specs.declared.counts.Tally.{Tally}
-use Rattle.harmscan_core.specs.Fold.{tallied, no_tally}
+use Rattle.study_scans.specs.declared.counts.Counts.{Counts}
+use Rattle.study_scans.specs.declared.counts.Tally.{Tally}
+use Rattle.study_scans.specs.Fold.{tallied, no_tally}
 use Rattle.harmscan_core.specs.Texts.{body_text, boxes_text, summary_text}
 use Rattle.harmscan_core.proofs.report.put_body.Goals as goal
 

@@ -3,11 +3,12 @@ use Rattle.std.specs.List.{AllByRecursion}
 use Rattle.harm_io.proofs.Writing.{WroteFront}
 use Rattle.scan_report.specs.declared.boxes.BoxRow.{BoxRow}
 use Rattle.band_subdivision.specs.BoxText.{HasText}
-use Rattle.harmscan_core.specs.Fold.{tally_more, tallied, no_tally}
-use Rattle.harmscan_core.specs.Tallies.{IsTally}
+use Rattle.study_scans.specs.Fold.{tally_more, tallied, no_tally}
+use Rattle.study_scans.specs.Tallies.{IsTally}
 use Rattle.harmscan_core.specs.Texts.{boxes_text}
-use Rattle.harmscan_core.specs.declared.counts.Tally.{Tally}
-use Rattle.harmscan_core.proofs.Rows.{Counts≤, boxes_next, boxes_stop, boxes_end, end_stop, count_grows, tally_grows}
+use Rattle.study_scans.specs.declared.counts.Tally.{Tally}
+use Rattle.study_scans.proofs.Tallies.{Counts≤, count_grows, tally_grows}
+use Rattle.harmscan_core.proofs.Rows.{boxes_next, boxes_stop, boxes_end, end_stop}
 use Rattle.harmscan_core.proofs.report.put_boxes.Goals as goal
 
 pub boxes-preserved : goal.boxes-preserved

@@ -2,8 +2,8 @@ use Rattle.std.proofs.Common.{◌≡◌, ◌+◌, ◌<◌, length}
 use Rattle.std.specs.List.{AllByRecursion}
 use Rattle.harm_io.proofs.Writing.{WroteFront}
 use Rattle.band_subdivision.specs.BoxText.{HasText}
-use Rattle.harmscan_core.specs.Fold.{most_boxes, tallied, no_tally}
-use Rattle.harmscan_core.specs.Tallies.{IsTally}
+use Rattle.study_scans.specs.Fold.{most_boxes, tallied, no_tally}
+use Rattle.study_scans.specs.Tallies.{IsTally}
 use Rattle.harmscan_core.specs.Texts.{boxes_text}
 use Rattle.harmscan_core.proofs.report.put_boxes.Given as goal
 

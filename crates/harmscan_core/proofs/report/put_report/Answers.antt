@@ -1,7 +1,7 @@
 use Rattle.std.proofs.Common.{ℕ}
 use Rattle.harm_io.proofs.Writing.{writes_stop}
-use Rattle.harmscan_core.specs.declared.counts.Found.{Found}
-use Rattle.harmscan_core.specs.Report.{report_status}
+use Rattle.study_scans.specs.declared.counts.Found.{Found}
+use Rattle.study_scans.specs.Report.{report_status}
 use Rattle.harmscan_core.specs.Texts.{whole_text, scans_text, end_text}
 use Rattle.harmscan_core.proofs.report.put_report.Goals as goal
 

@@ -1,6 +1,6 @@
 use Rattle.harm_io.proofs.Writing.{writes_stop}
-use Rattle.harmscan_core.specs.declared.counts.Counts.{Counts}
-use Rattle.harmscan_core.specs.Scan.{boxes_in}
+use Rattle.study_scans.specs.declared.counts.Counts.{Counts}
+use Rattle.study_scans.specs.Scan.{boxes_in}
 use Rattle.harmscan_core.specs.Texts.{scan_text, head_text, body_text}
 use Rattle.harmscan_core.proofs.report.put_scan.Goals as goal
 

@@ -1,7 +1,7 @@
 use Rattle.std.proofs.Common.{◌+◌}
 use Rattle.harm_io.proofs.Writing.{writes_stop}
 use Rattle.scan_report.specs.Rows.{row_text}
-use Rattle.harmscan_core.specs.Report.{row_of}
+use Rattle.study_scans.specs.Report.{row_of}
 use Rattle.harmscan_core.specs.Texts.{step_text, ended_text}
 use Rattle.harmscan_core.proofs.report.put_step.Goals as goal
 

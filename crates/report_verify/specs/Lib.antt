@@ -1,0 +1,4 @@
+pub mod Told
+pub mod Checks
+pub mod FirstFault
+pub mod Claim

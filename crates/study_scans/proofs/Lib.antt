@@ -1,0 +1,10 @@
+pub mod Asked
+pub mod NodeOrderings
+pub mod Sound
+pub mod Holds
+pub mod BoxCount
+pub mod Boxes
+pub mod Walks
+pub mod Plans
+pub mod Tallies
+pub mod Folds

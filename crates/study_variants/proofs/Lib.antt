@@ -1,0 +1,5 @@
+pub mod BandCleared
+pub mod BoxCount
+pub mod CountedBoxes
+pub mod LeftBranches
+pub mod SizeRows

@@ -1,0 +1,3 @@
+pub mod Kinds
+pub mod Outages
+pub mod Sizes
