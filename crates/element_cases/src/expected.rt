@@ -12,7 +12,7 @@ use study_model::{Sequence, Study};
 use study_reader::read_study;
 
 const BUSES: &str =
-    "study = { version = 1, mva = 100 }\nbus = [{ name = \"B1\", kv = 10 }, { name = \"B2\", kv = 10 }]\n";
+    "study.version = 1\nstudy.mva = 100\nbus = [{ name = \"B1\", kv = 10 }, { name = \"B2\", kv = 10 }]\n";
 
 /// A fraction n/d, not reduced.
 pub type Value = (i64, i64);

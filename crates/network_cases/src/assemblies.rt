@@ -1,10 +1,9 @@
 // Matrices of small networks.
-ghost use Rattle.std.specs.Prelude.{◌≡◌, ◌≤◌, ◌∷◌, [], IfOk};
+ghost use Rattle.std.specs.Prelude.{◌≡◌, ◌∷◌, [], IfOk};
 ghost use Rattle.network_theory.specs.Network.{IsUncoupled};
 ghost use Rattle.net_branch.specs.declared.network.Law.TheVariants.{Series};
-ghost use Rattle.net_branch.specs.Exact.{exact_branch, exact_network};
+ghost use Rattle.net_branch.specs.Exact.{exact_branch};
 ghost use Rattle.net_branch.specs.Whole.{IsWholeNetwork};
-ghost use Rattle.admittance_box.specs.HeldMatrix.{HasNoGroup};
 
 use crate::fixtures::{
     FOUR_HUNDREDTHS, ONE, TWO, ZERO, add, bank, coil, expect, fill, live_node, network_of, push,
@@ -31,8 +30,7 @@ const THREE_BANKS: i64 = 3_145_720 * UNIT;
 
 /// The assembly of a network that is driven at a node, which must be live.
 pub fn driven_at(alloc: Global, network: &Network, number: u32) -> Result<Assembly<Span<40>>, Fail>
-    requires whole { IsWholeNetwork network.now }
-    requires no_group { HasNoGroup (exact_network network.now) }
+    requires { IsWholeNetwork network.now }
 {
     let node = live_node(alloc, network, number)?;
     Ok(Assembly::new(alloc, network, node)?)
@@ -63,8 +61,7 @@ fn matrix_of(
     lo: u32,
     hi: u32,
 ) -> Result<Result<Matrix<Span<40>>, u32>, Fail>
-    requires whole { IsWholeNetwork network.now }
-    requires no_group { HasNoGroup (exact_network network.now) }
+    requires { IsWholeNetwork network.now }
 {
     let mut assembly = driven_at(alloc, network, number)?;
     filled(alloc, &mut assembly, lo, hi)
@@ -149,8 +146,7 @@ fn matrices_of_two_buses(rt: HostRuntime) -> Result<(), Fail> {
 
 // Three buses and two inner nodes, each with a coil to ground.
 fn with_inner_nodes(alloc: Global) -> Result<Network, Fail>
-    ensures whole { IfOk result IsWholeNetwork }
-    ensures no_group { IfOk result (λ network. HasNoGroup (exact_network network)) }
+    ensures { IfOk result IsWholeNetwork }
 {
     let mut network = new_network(alloc, 3)?;
     add(&mut network)?;
@@ -271,7 +267,6 @@ fn branch_with(alloc: Global, taps: &[Tap], law: Law) -> Result<Branch, Fail>
 fn grounded(alloc: Global, taps: &[Tap], law: Law) -> Result<Network, Fail>
     requires { IsUncoupled (exact_branch (record { taps = taps.now; law = law; group = 0; owner = 1 })) }
     ensures whole { IfOk result IsWholeNetwork }
-    ensures no_group { IfOk result (λ network. HasNoGroup (exact_network network)) }
     ensures value { IfOk result (λ network. network ≡ record { buses = 1; nodes = 1; branches = record { taps = taps.now; law = law; group = 0; owner = 1 } ∷ [] }) }
 {
     let mut network = new_network(alloc, 1)?;

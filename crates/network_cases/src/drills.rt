@@ -1,8 +1,6 @@
 // The network of a drill: its scan over finer boxes gives those that come out of the reduction of full rows.
 ghost use Rattle.std.specs.Prelude.{IfOk};
-ghost use Rattle.net_branch.specs.Exact.{exact_network};
 ghost use Rattle.net_branch.specs.Whole.{IsWholeNetwork};
-ghost use Rattle.admittance_box.specs.HeldMatrix.{HasNoGroup};
 
 use crate::assemblies::driven_at;
 use crate::fixtures::expect;
@@ -33,8 +31,7 @@ const ASKED: Asked = Asked {
 
 // The network of the drill of number 7.
 fn drill_network(alloc: Global) -> Result<Network, Fail>
-    ensures whole { IfOk result IsWholeNetwork }
-    ensures no_group { IfOk result (λ network. HasNoGroup (exact_network network)) }
+    ensures { IfOk result IsWholeNetwork }
 {
     let study = drill_study(alloc, 7)?;
     let networks = networks_of(alloc, &study)?;

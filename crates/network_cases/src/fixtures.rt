@@ -4,7 +4,6 @@ ghost use Rattle.network_theory.specs.Live.{Live};
 ghost use Rattle.network_theory.specs.Network.{IsUncoupled};
 ghost use Rattle.net_branch.specs.Exact.{exact_branch, exact_network};
 ghost use Rattle.net_branch.specs.Whole.{IsWholeNetwork};
-ghost use Rattle.admittance_box.specs.HeldMatrix.{HasNoGroup};
 
 use exact_fraction::Fraction;
 use net_branch::{
@@ -132,12 +131,11 @@ pub fn branch_of(alloc: Global, part: &Part) -> Result<Branch, Fail>
 }
 
 /// Adds an uncoupled branch, and answers as `push_branch` does.
-#[tactic(auto, using(net_branch::proofs::Wholes::uncoupled_next, net_branch::proofs::Wholes::uncoupled_grouped, net_branch::proofs::Wholes::whole_growing, admittance_box::proofs::Groups::none_more))]
+#[tactic(auto, using(net_branch::proofs::Wholes::uncoupled_next, net_branch::proofs::Wholes::uncoupled_grouped, net_branch::proofs::Wholes::whole_growing))]
 pub fn push(alloc: Global, network: &mut Network, branch: Branch) -> Result<(), NetFault>
     requires whole { IsWholeNetwork network.old }
     requires uncoupled { IsUncoupled (exact_branch branch) }
     ensures whole { IsWholeNetwork network.new }
-    ensures no_group { HasNoGroup (exact_network network.old) → HasNoGroup (exact_network network.new) }
     ensures pushed { OnOk result (network.new ≡ record network.old { branches = network.old.branches ++ branch ∷ [] }) }
 {
     push_branch(alloc, network, branch)?;
@@ -148,18 +146,15 @@ pub fn push(alloc: Global, network: &mut Network, branch: Branch) -> Result<(), 
 #[tactic(auto, using(net_branch::proofs::Wholes::whole_growing))]
 pub fn add(network: &mut Network) -> Result<u32, NetFault>
     requires { IsWholeNetwork network.old }
-    ensures whole { IsWholeNetwork network.new }
-    ensures no_group { HasNoGroup (exact_network network.old) → HasNoGroup (exact_network network.new) }
+    ensures { IsWholeNetwork network.new }
 {
     Ok(add_node(network)?.number)
 }
 
 /// Adds these parts.
 pub fn fill(alloc: Global, network: &mut Network, parts: &[Part]) -> Result<(), Fail>
-    requires whole { IsWholeNetwork network.old }
-    requires no_group { HasNoGroup (exact_network network.old) }
-    ensures whole { IsWholeNetwork network.new }
-    ensures no_group { HasNoGroup (exact_network network.new) }
+    requires { IsWholeNetwork network.old }
+    ensures { IsWholeNetwork network.new }
 {
     for part in parts {
         push(alloc, network, branch_of(alloc, part)?)?;
@@ -170,8 +165,7 @@ pub fn fill(alloc: Global, network: &mut Network, parts: &[Part]) -> Result<(), 
 /// So many buses with these parts.
 pub fn network_of(alloc: Global, buses: u32, parts: &[Part]) -> Result<Network, Fail>
     requires { buses ≤ 400 }
-    ensures whole { IfOk result IsWholeNetwork }
-    ensures no_group { IfOk result (λ network. HasNoGroup (exact_network network)) }
+    ensures { IfOk result IsWholeNetwork }
 {
     let mut network = new_network(alloc, buses)?;
     fill(alloc, &mut network, parts)?;
@@ -180,8 +174,7 @@ pub fn network_of(alloc: Global, buses: u32, parts: &[Part]) -> Result<Network, 
 
 /// A coil from node 1 to ground, one between both nodes, and a bank at node 0.
 pub fn two_buses(alloc: Global) -> Result<Network, Fail>
-    ensures whole { IfOk result IsWholeNetwork }
-    ensures no_group { IfOk result (λ network. HasNoGroup (exact_network network)) }
+    ensures { IfOk result IsWholeNetwork }
 {
     let parts = [coil(1, ZERO), tie(0, ONE, 1), bank(0, FOUR_HUNDREDTHS)];
     network_of(alloc, 2, parts.as_slice())

@@ -17,3 +17,5 @@ mod live_nodes;
 mod scans;
 #[cfg(test)]
 mod systems;
+#[cfg(test)]
+mod variants;

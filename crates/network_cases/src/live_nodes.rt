@@ -138,8 +138,8 @@ fn phase(alloc: Global, nodes: [u32; 2], place: u8, x: Fraction) -> Result<Branc
     })
 }
 
-// The three branches of a group whose number is new.
-fn push_group(
+/// The three branches of a group whose number is new.
+pub fn push_group(
     alloc: Global,
     network: &mut Network,
     a: Branch,
@@ -157,8 +157,8 @@ fn push_group(
     Ok(())
 }
 
-// Whether two values are equal, each by its own parts.
-fn is_equal(x: Fraction, y: Fraction) -> bool
+/// Whether two values are equal, each by its own parts.
+pub fn is_equal(x: Fraction, y: Fraction) -> bool
     ensures { IsTrue result → (ratio_of x ≼ ratio_of y) × (ratio_of y ≼ ratio_of x) }
 {
     x.at_most(y) && y.at_most(x)

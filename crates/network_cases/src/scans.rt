@@ -1,8 +1,6 @@
 // Scans of small networks at 100 MVA, most of them at 10 kV, where 1 per unit is 1 ohm.
 ghost use Rattle.std.specs.Prelude.{◌≡◌, pos, IfOk};
-ghost use Rattle.net_branch.specs.Exact.{exact_network};
 ghost use Rattle.net_branch.specs.Whole.{IsWholeNetwork};
-ghost use Rattle.admittance_box.specs.HeldMatrix.{HasNoGroup};
 ghost use Rattle.study_model.specs.Curve.{curve_points, IsLawfulCurve, Spans};
 ghost use Rattle.band_subdivision.specs.ScanSpec.{IsScanSpec};
 
@@ -20,10 +18,9 @@ use std::process::Abort;
 use std::test::Fail;
 use study_model::{Curve, CurvePoint, Method};
 
-// A bus behind a coil of this resistance.
-fn one_bus(alloc: Global, r: Fraction) -> Result<Network, Fail>
-    ensures whole { IfOk result IsWholeNetwork }
-    ensures no_group { IfOk result (λ network. HasNoGroup (exact_network network)) }
+/// A bus behind a coil of this resistance.
+pub fn one_bus(alloc: Global, r: Fraction) -> Result<Network, Fail>
+    ensures { IfOk result IsWholeNetwork }
 {
     network_of(alloc, 1, &[coil(0, r)])
 }
@@ -61,7 +58,8 @@ fn curve_of(from: u32, to: u32, ohms: [u64; 2]) -> Result<Curve, Fail>
     Ok(Curve::of_points(&[first, last]))
 }
 
-fn spec_of(asked: Asked) -> Result<ScanSpec, Fail>
+/// What a scan is asked, in the ranges of a study.
+pub fn spec_of(asked: Asked) -> Result<ScanSpec, Fail>
     ensures in_range { IfOk result IsScanSpec }
 {
     let [from, to] = asked.band;
@@ -98,8 +96,7 @@ pub fn scan_of<E: Enclosure>(
     number: u32,
     asked: Asked,
 ) -> Result<Scan<E>, Fail>
-    requires whole { IsWholeNetwork network.now }
-    requires no_group { HasNoGroup (exact_network network.now) }
+    requires { IsWholeNetwork network.now }
 {
     let spec = spec_of(asked)?;
     let node = live_node(alloc, network, number)?;
@@ -114,7 +111,6 @@ fn scan_between<E: Enclosure>(
     spec: &ScanSpec,
 ) -> Result<Scan<E>, Fail>
     requires whole { IsWholeNetwork network.now }
-    requires no_group { HasNoGroup (exact_network network.now) }
     requires spec { IsScanSpec spec.now }
     ensures { IfOk result (λ s. s.spec ≡ spec.now) }
 {
@@ -145,8 +141,8 @@ pub fn expect_boxes<E: Enclosure>(rt: &impl Abort, scan: &mut Scan<E>, rows: &[R
     expect(rt, next(scan), None, "the end");
 }
 
-// The boxes of a scan of a network at a live node are these.
-fn expect_scan<E: Enclosure>(
+/// The boxes of a scan of a network at a live node are these.
+pub fn expect_scan<E: Enclosure>(
     rt: &impl Abort,
     alloc: Global,
     network: &Network,
@@ -154,8 +150,7 @@ fn expect_scan<E: Enclosure>(
     asked: Asked,
     rows: &[Row],
 ) -> Result<(), Fail>
-    requires whole { IsWholeNetwork network.now }
-    requires no_group { HasNoGroup (exact_network network.now) }
+    requires { IsWholeNetwork network.now }
 {
     let mut scan: Scan<E> = scan_of(alloc, network, number, asked)?;
     expect_boxes(rt, &mut scan, rows);
@@ -283,10 +278,21 @@ fn restart(rt: &impl Abort, scan: &mut Scan<Span<40>>, extra: Option<Fraction>)
     }
 }
 
-// |Z| is at most 7.01 ohms.
-const WITHOUT_A_BANK: [Row; 1] = [(3_000_000, 7_000_000, Kind::Cleared)];
+/// Against 20 ohms.
+pub const BESIDE_A_BANK: Asked = Asked {
+    band: [3_000_000, 7_000_000],
+    finest: 125_000,
+    locate: 500_000,
+    kv: 10,
+    ohms: [20_000_000, 20_000_000],
+    method: Method::Elimination,
+};
 
-const WITH_A_BANK: [Row; 6] = [
+/// |Z| is at most 7.01 ohms.
+pub const WITHOUT_A_BANK: [Row; 1] = [(3_000_000, 7_000_000, Kind::Cleared)];
+
+/// With 4 MVAr beside the coil.
+pub const WITH_A_BANK: [Row; 6] = [
     (3_000_000, 4_000_000, Kind::Cleared),
     (
         4_000_000,
@@ -327,15 +333,7 @@ const WITH_A_BANK: [Row; 6] = [
 #[test]
 fn a_resonance_with_an_extra_bank(rt: HostRuntime) -> Result<(), Fail> {
     let network = one_bus(rt.alloc(), TENTH)?;
-    let asked = Asked {
-        band: [3_000_000, 7_000_000],
-        finest: 125_000,
-        locate: 500_000,
-        kv: 10,
-        ohms: [20_000_000, 20_000_000],
-        method: Method::Elimination,
-    };
-    let mut scan = scan_of(rt.alloc(), &network, 0, asked)?;
+    let mut scan = scan_of(rt.alloc(), &network, 0, BESIDE_A_BANK)?;
     expect_boxes(&rt, &mut scan, WITHOUT_A_BANK.as_slice());
     restart(&rt, &mut scan, Some(FOUR_HUNDREDTHS));
     expect_next(&rt, &mut scan, &WITH_A_BANK[..2]);
@@ -373,8 +371,7 @@ fn tested(
     extra: Option<Fraction>,
     order: u32,
 ) -> Result<Tested, Fail>
-    requires whole { IsWholeNetwork network.now }
-    requires no_group { HasNoGroup (exact_network network.now) }
+    requires { IsWholeNetwork network.now }
 {
     let spec = spec_of(asked)?;
     let mut scan = scan_between(alloc, network, number, &spec)?;
@@ -450,8 +447,7 @@ fn expect_tested(
     asked: (&str, u64, Option<Fraction>),
     wanted: Tested,
 ) -> Result<(), Fail>
-    requires whole { IsWholeNetwork network.now }
-    requires no_group { HasNoGroup (exact_network network.now) }
+    requires { IsWholeNetwork network.now }
 {
     let (label, ohms, extra) = asked;
     for method in methods {

@@ -1,5 +1,5 @@
-// What the cases share: studies of two buses of 10 kV at a base of 100 MVA, where one ohm is one per unit, and branches by their values. Bus B1 has
-// the nodes 0, 1 and 2, B2 the nodes 3, 4 and 5; inner nodes are numbered from 6 on.
+// What the cases share: studies in three phases of two buses of 10 kV at a base of 100 MVA, where one ohm is one per unit, and branches by their
+// values. Bus B1 has the nodes 0, 1 and 2, B2 the nodes 3, 4 and 5; inner nodes are numbered from 6 on.
 ghost use Rattle.std.specs.Prelude.{IfOk};
 ghost use Rattle.study_model.specs.Lawful.{IsLawful};
 
@@ -13,7 +13,7 @@ use study_model::Study;
 use study_reader::read_study;
 
 const BUSES: &str =
-    "study = { version = 1, mva = 100 }\nbus = [{ name = \"B1\", kv = 10 }, { name = \"B2\", kv = 10 }]\n";
+    "study = { version = 1, mva = 100, model = \"phases\" }\nbus = [{ name = \"B1\", kv = 10 }, { name = \"B2\", kv = 10 }]\n";
 
 /// A fraction n/d, not reduced.
 pub type Value = (i64, i64);

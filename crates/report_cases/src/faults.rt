@@ -7,7 +7,7 @@ const PLACE: Place = Place {
     key: Key::From,
 };
 
-const WITH_A_PLACE: [(StudyFault, u32, &str); 15] = [
+const WITH_A_PLACE: [(StudyFault, u32, &str); 16] = [
     (StudyFault::MissingKey(PLACE), 3, "MissingKey"),
     (StudyFault::UnknownKey(PLACE), 4, "UnknownKey"),
     (StudyFault::WrongKind(PLACE), 5, "WrongKind"),
@@ -23,6 +23,7 @@ const WITH_A_PLACE: [(StudyFault, u32, &str); 15] = [
     (StudyFault::Floating(PLACE), 15, "Floating"),
     (StudyFault::PhaseFloating(PLACE), 16, "PhaseFloating"),
     (StudyFault::UnknownElement(PLACE), 18, "UnknownElement"),
+    (StudyFault::UnknownScan(PLACE), 19, "UnknownScan"),
 ];
 
 const WITHOUT_A_PLACE: [(StudyFault, Option<u32>, &str); 3] = [

@@ -14,6 +14,8 @@ mod names;
 #[cfg(test)]
 mod ranges;
 #[cfg(test)]
+mod reach_rows;
+#[cfg(test)]
 mod readings;
 #[cfg(test)]
 mod rows;

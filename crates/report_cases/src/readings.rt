@@ -54,7 +54,7 @@ fn whole_reports(rt: HostRuntime) {
 }
 
 /// Texts that are no report, each with its first line that is none.
-const BAD: [(&str, &str, u32); 25] = [
+const BAD: [(&str, &str, u32); 29] = [
     ("no bytes", "", 1),
     ("an empty line", "\n", 1),
     ("no line feed", "end,0", 1),
@@ -77,6 +77,22 @@ const BAD: [(&str, &str, u32); 25] = [
     (
         "a report on distortion",
         "thd,B1,s,0.0000,0.0000,5.0000,pass\nsummary,limits,1,0,0\nend,0\n",
+        1,
+    ),
+    (
+        "a report on candidates",
+        "candidate,s1,B1,3.000000,7.000000,20.000000\nsize,1,4.000000,2,4,0\nfirst,s1,-\nend,3\n",
+        1,
+    ),
+    ("a verified report", "verified,1,6\n", 1),
+    (
+        "a report on tolerances",
+        "tolerance,1\nscan,s1,B1,positive,1.000000,10.000000,20.000000,elimination\nbox,1,1.000000,10.000000,cleared,-,-\nsummary,s1,1,1,0,0,0\nend,0\n",
+        1,
+    ),
+    (
+        "a report on outages",
+        "outage,1,S1,floating\nenvelope,s1,0,0,0,0\nend,3\n",
         1,
     ),
     (

@@ -42,3 +42,5 @@ mod reports;
 mod studies;
 #[cfg(test)]
 mod torn;
+#[cfg(test)]
+mod variant_refusals;

@@ -3,7 +3,10 @@ use crate::answers::joined;
 use std::alloc::Global;
 use std::process::Abort;
 use std::test::Fail;
-use study_model::{Bank, Bus, Curve, CurvePoint, Method, Pcc, ScanItem, Source, Study, StudyModel};
+use study_model::{
+    Bank, Bus, Candidate, Curve, CurvePoint, Method, Outage, Pcc, ScanItem, Source, Study,
+    StudyModel, Tolerance,
+};
 use study_reader::read_study;
 
 const STUDY: &str = "[study]\nversion = 1\nmva = \"100\"\n";
@@ -196,6 +199,65 @@ fn points_and_no_scans(rt: HostRuntime) -> Result<(), Fail> {
         ("loads", study.loads.len() == 1),
         ("scans", study.scans.len() == 0),
         ("point", is_point(study.points.as_slice(), 1, 200_000_000)),
+    ];
+    assert_all(&rt, &parts);
+    Ok(())
+}
+
+const SECOND_SCAN: &str =
+    "[[scan]]\nname = \"s2\"\nbus = \"B1\"\nfrom = 1\nto = 2\nthreshold = 20\nfinest = 1\n";
+
+const VARIANTS: &str =
+    "[[outage]]\nelement = \"K1\"\n[[tolerance]]\nelement = \"K1\"\npermille = 500\n[[tolerance]]\nelement = \"S1\"\npermille = 1\n[[candidate]]\nscan = \"s2\"\nsizes = [4, \"0.5\", 4]\n";
+
+/// Whether there is one candidate, of this scan and these sizes.
+fn is_candidate(candidates: &[Candidate], scan: u32, sizes: &[i64]) -> bool {
+    match candidates {
+        [candidate] => {
+            let found = candidate.sizes.as_slice();
+            let same = found
+                .iter()
+                .zip(sizes)
+                .all(|(size, number)| size.millionths == *number);
+            candidate.scan == scan && found.len() == sizes.len() && same
+        }
+        _ => false,
+    }
+}
+
+fn are_tolerances(tolerances: &[Tolerance], numbers: [(u32, u32); 2]) -> bool {
+    match tolerances {
+        [first, second] => {
+            let found = [
+                (first.element, first.permille),
+                (second.element, second.permille),
+            ];
+            found == numbers
+        }
+        _ => false,
+    }
+}
+
+fn is_outage(outages: &[Outage], element: u32) -> bool {
+    match outages {
+        [outage] => outage.element == element,
+        _ => false,
+    }
+}
+
+#[test]
+fn candidates_tolerances_and_outages(rt: HostRuntime) -> Result<(), Fail> {
+    let pieces = [STUDY, BUS, SOURCE, BANK, SCAN, SECOND_SCAN, VARIANTS];
+    let study = read(rt.alloc(), &pieces)?;
+    let sizes = [4_000_000, 500_000, 4_000_000];
+    let tolerances = study.tolerances.as_slice();
+    let parts = [
+        (
+            "candidate",
+            is_candidate(study.candidates.as_slice(), 2, &sizes),
+        ),
+        ("tolerances", are_tolerances(tolerances, [(2, 500), (1, 1)])),
+        ("outage", is_outage(study.outages.as_slice(), 2)),
     ];
     assert_all(&rt, &parts);
     Ok(())

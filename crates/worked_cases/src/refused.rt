@@ -1,6 +1,6 @@
 // Studies that are refused, through the program.
 use crate::answers::{Answer, SCAN, assert_answer, joined, shelf_with};
-use crate::{curve_refusals, refusals};
+use crate::{curve_refusals, refusals, variant_refusals};
 use std::alloc::Global;
 use std::process::Abort;
 use std::test::Fail;
@@ -118,6 +118,33 @@ fn refused_points(rt: HostRuntime) -> Result<(), Fail> {
 }
 
 #[test]
+fn refused_variants(rt: HostRuntime) -> Result<(), Fail> {
+    let plant = joined(rt.alloc(), &PLANT)?;
+    let pieces = [plant.as_str(), variant_refusals::SCANS];
+    assert_behind(&rt, rt.alloc(), &pieces, &variant_refusals::CANDIDATE_LISTS)?;
+    assert_behind(&rt, rt.alloc(), &pieces, &variant_refusals::TOLERANCE_LISTS)?;
+    assert_behind(&rt, rt.alloc(), &pieces, &variant_refusals::OUTAGE_LISTS)
+}
+
+#[test]
+fn refused_variants_in_other_forms(rt: HostRuntime) -> Result<(), Fail> {
+    let phases = [
+        refusals::PHASES,
+        refusals::BUSES,
+        refusals::SOURCE,
+        variant_refusals::PHASE_SCAN,
+    ];
+    assert_behind(&rt, rt.alloc(), &phases, &variant_refusals::PHASE_LISTS)?;
+    let newer = [
+        curve_refusals::STUDY,
+        refusals::BUSES,
+        refusals::SOURCE,
+        variant_refusals::CURVE_SCAN,
+    ];
+    assert_behind(&rt, rt.alloc(), &newer, &variant_refusals::NEWER_LISTS)
+}
+
+#[test]
 fn refused_phase_networks(rt: HostRuntime) -> Result<(), Fail> {
     let pieces = [refusals::PHASES, refusals::BUSES];
     assert_behind(&rt, rt.alloc(), &pieces, &refusals::PHASE_LISTS)
@@ -164,7 +191,7 @@ const BUS_COUNTS: [(&str, u32, &str); 2] = [
     ("bus", 201, "12 TooMany bus 0 -"),
 ];
 
-const COUNTS: [(&str, u32, &str); 12] = [
+const COUNTS: [(&str, u32, &str); 18] = [
     ("source", 200, "3 MissingKey source 1 name"),
     ("source", 201, "12 TooMany source 0 -"),
     ("line", 201, "12 TooMany line 0 -"),
@@ -177,6 +204,12 @@ const COUNTS: [(&str, u32, &str); 12] = [
     ("scan", 17, "12 TooMany scan 0 -"),
     ("pcc", 32, "3 MissingKey pcc 1 name"),
     ("pcc", 33, "12 TooMany pcc 0 -"),
+    ("candidate", 16, "3 MissingKey candidate 1 scan"),
+    ("candidate", 17, "12 TooMany candidate 0 -"),
+    ("tolerance", 200, "3 MissingKey tolerance 1 element"),
+    ("tolerance", 201, "12 TooMany tolerance 0 -"),
+    ("outage", 32, "3 MissingKey outage 1 element"),
+    ("outage", 33, "12 TooMany outage 0 -"),
 ];
 
 #[test]

@@ -14,6 +14,7 @@ fn reports(rt: HostRuntime) -> Result<(), Fail> {
             studies::BELOW_ITS_THRESHOLD_REPORT,
             0,
         ),
+        (studies::VARIANTS, studies::BELOW_ITS_THRESHOLD_REPORT, 0),
         (studies::WIDE_PEAKS, studies::WIDE_PEAKS_REPORT, 3),
         (studies::ROUNDED_HERTZ, studies::ROUNDED_HERTZ_REPORT, 3),
         (

@@ -28,6 +28,35 @@ summary,s1,1,1,0,0,0
 end,0
 ";
 
+/// The same beside a candidate, a tolerance and an outage, which a scan doesn't use, though no bus is live without the source.
+pub const VARIANTS: &str = r#"[study]
+version = 1
+mva = "100"
+[[bus]]
+name = "B1"
+kv = "10"
+[[source]]
+name = "S1"
+bus = "B1"
+r = "0"
+x = "1"
+[[scan]]
+name = "s1"
+bus = "B1"
+from = "1"
+to = "10"
+threshold = "20"
+finest = "0.001"
+[[candidate]]
+scan = "s1"
+sizes = ["0.000001", 4]
+[[tolerance]]
+element = "S1"
+permille = 500
+[[outage]]
+element = "S1"
+"#;
+
 /// Both halves are above a low threshold and at most `locate` wide.
 pub const WIDE_PEAKS: &str = r#"[study]
 version = 1
