@@ -23,9 +23,9 @@ import tempfile
 
 TOP = pathlib.Path(__file__).resolve().parents[2]
 
-SECTION = "study|bus|source|line|transformer|load|bank|filter|scan|pcc|top|network"
+SECTION = "study|bus|source|line|transformer|load|bank|filter|scan|pcc|candidate|tolerance|outage|top|network"
 NAMES = ("MissingKey|UnknownKey|WrongKind|BareDecimal|BadDecimal|OutOfRange|BadName|DuplicateName|UnknownBus|TooMany|BadBand|TooFine|Floating"
-         "|PhaseFloating|UnknownElement")
+         "|PhaseFloating|UnknownElement|UnknownScan")
 ROWS = "BadRow|BadOrder|UnknownBus|BadDecimal|Repeated|BadPhase|NoPath|BadPercent"
 REFUSED = re.compile(rf"harmscan: (study (too large|refused: (1 NotToml|2 VersionUnknown|\d+ ({NAMES}) ({SECTION}) \d+ (-|[a-z0-9_]+)))"
                      rf"|(spectrum|levels) (too large|refused: (1 BadHeader|[2-8] ({ROWS}) [1-9]\d*)))\n")
@@ -34,11 +34,11 @@ NUMBERS = ["0", "-0", "-1", "1", "0.000001", "0.0000001", "999999.999999", "1000
            "9223372036854775808", "1.", ".5", "", "nan", "inf", "0x10", "1_000", "00007", "5000", "10000", "0.1", "100", "65537"]
 WORDS = ["positive", "zero", "grounded", "star", "delta", "cigre", "parallel", "series", "single", "highpass", "ctype", "both", "branchwise",
          "elimination", "phases", "sequence", "a", "b", "c", "limits", "true", "false", "GRID", "x" * 32, "x" * 33, "ü", "a b", "a,b", '\\"']
-LINES = ["[[bus]]", "[[scan]]", "[[source]]", "[[line]]", "[[transformer]]", "[[load]]", "[[bank]]", "[[filter]]", "[[pcc]]", "[study]",
+LINES = ["[[bus]]", "[[scan]]", "[[source]]", "[[line]]", "[[transformer]]", "[[load]]", "[[bank]]", "[[filter]]", "[[pcc]]", "[[candidate]]", "[[tolerance]]", "[[outage]]", "[study]",
          "[extra]", "key = 1", 'phase = "a"', 'xab = "1"', "grounded = true", "scale = 48", 'method = "both"', 'method = "branchwise"',
          "version = 2", "sections = 64", "sections = 65", 'curve_at = ["1", "50"]', 'curve_ohms = ["5", "7"]', "threshold = 1", 'model = "phases"',
          'root3 = "1.7"', "hz = 60", 'skin_k = "1"', "locate = 1", 'finest = "0.01"', "# a comment", "", "\ufeff", "]", "[[", "= =", "5,B1,1,0", "order,bus,re,im", "bus,order,percent", "50,B1,0.000001,-3", "3,B1,1,1",
-         "B1,thd,100", "B1,5,0.0001", "thd,B1,2", "51,B1,1,0", "05,B1,1,0", '"5",B1,1,0', "5,B1,1", "5,B1,a,1,0"]
+         'scan = "s1"', 'sizes = ["1", "2"]', "permille = 500", "permille = 501", 'element = "GRID"', "B1,thd,100", "B1,5,0.0001", "thd,B1,2", "51,B1,1,0", "05,B1,1,0", '"5",B1,1,0', "5,B1,1", "5,B1,a,1,0"]
 
 # for distortion: a study with a point of common coupling, its spectrum and its planning levels
 STUDY = b"""study = { version = 1, mva = "100" }
