@@ -1,5 +1,5 @@
 -- Bytes are one accepted study at most, or are refused for one fault at most, and not both; and how a reading ends that meets a fault.
-use Rattle.std.proofs.Common.{◌≡◌, ◌≢◌, ◌≤◌, inr, ℕ, List, length, IfSome, Err, refl, ap, sym, subst}
+use Rattle.std.proofs.Common.{◌≡◌, ◌≢◌, ◌≤◌, ◌∙◌, inr, ℕ, List, length, IfSome, Err, refl, ap, sym, subst}
 use Rattle.harm_io.specs.Shelves.{ShelfState, asked_too, Fetches}
 use Rattle.harm_io.specs.declared.shelf.FetchFault.{FetchFault}
 use Rattle.harm_io.specs.declared.shelf.FetchFault.TheVariants as fetch
@@ -10,7 +10,7 @@ use Rattle.study_reader.specs.StudyOf.{IsStudy, Refused as Unread}
 use Rattle.study_reader.proofs.Refusals.{same_study, not_refused as not_unread, same_refusal as same_unread}
 use Rattle.study_networks.specs.Networks.{IsNetworksRefusal}
 use Rattle.study_networks.proofs.Refusals.{same_networks_refusal, no_networks_refusal}
-use Rattle.harmscan_core.specs.Accepted.{IsAccepted, IsRefused, unread, network, RefusesStudy}
+use Rattle.harmscan_core.specs.Accepted.{IsAccepted, IsRefused, unread, network, RefusedFor, RefusesStudy}
 use Rattle.harmscan_core.specs.Files.{longest_file, Reads}
 use Rattle.harmscan_core.specs.Outcome.{RefusesNetworks, EndsAt, outcome_of_fetch}
 use Rattle.harmscan_core.specs.Subject.{StudyBy}
@@ -35,20 +35,19 @@ same_refusal bytes f g (unread r) (network s i l) = absurd (not_unread bytes s f
 same_refusal bytes f g (network s i l) (unread q) = absurd (not_unread bytes s g i q)
 same_refusal bytes f g (network s i l) (network t j m) = same_networks_refusal t f g (subst (λ (x : Study). IsNetworksRefusal x f) (same_study bytes s t i j) l) m
 
-not_both : (bytes : List ℕ) (study : Study) (r : Refusal) → IsAccepted bytes study → RefusesStudy bytes r → ⊥
-not_both bytes study (refusal.Study f) a h = not_refused bytes study f a h.1
-not_both bytes study (refusal.Spectrum f) a h = absurd h
-not_both bytes study (refusal.Levels f) a h = absurd h
-
-one_refusal : (bytes : List ℕ) (q r : Refusal) → RefusesStudy bytes q → RefusesStudy bytes r → q ≡ r
-one_refusal bytes (refusal.Study f) (refusal.Study g) h k = ap refusal.Study (same_refusal bytes f g h.1 k.1)
-one_refusal bytes (refusal.Study f) (refusal.Spectrum g) h k = absurd k
-one_refusal bytes (refusal.Study f) (refusal.Levels g) h k = absurd k
-one_refusal bytes (refusal.Spectrum f) r h k = absurd h
-one_refusal bytes (refusal.Levels f) r h k = absurd h
+-- ---- what a file is, and for what it is refused
+-- one value at most, or one fault at most, and not both
+pub decided : {A F : Type 0} (Is : List ℕ → A → Type 0) (no_memory : F) (refused : F → Refusal) (Fails : List ℕ → F → Type 0) → ((bytes : List ℕ) (a b : A) → Is bytes a → Is bytes b → a ≡ b)
+    → ((bytes : List ℕ) (a : A) (f : F) → Is bytes a → Fails bytes f → ⊥) → ((bytes : List ℕ) (f g : F) → Fails bytes f → Fails bytes g → f ≡ g)
+    → IsDecided Is (λ bytes. RefusedFor no_memory refused (Fails bytes))
+decided Is no_memory refused Fails one apart same = record {
+  one = one;
+  not_both = λ bytes a r is no. apart bytes a no.fault is no.fails;
+  one_refusal = λ bytes q r h k. h.is ∙ ap refused (same bytes h.fault k.fault h.fails k.fails) ∙ sym k.is;
+}
 
 pub study_decided : IsDecided IsAccepted RefusesStudy
-study_decided = record { one = same_accepted; not_both = not_both; one_refusal = one_refusal }
+study_decided = decided IsAccepted fault.NoMemory refusal.Study IsRefused same_accepted not_refused same_refusal
 
 -- ---- how a reading ends
 -- at a fetch that gave no file
@@ -84,10 +83,8 @@ study_unfetched name before now f o = unfetched Study file.Study IsAccepted Refu
 pub networks_refused : (name bytes : List ℕ) (before now : ShelfState) (study : Study) (o : Outcome) → now ≡ asked_too before name → IfSome (before.file name) (λ b. bytes ≡ b) → length bytes ≤ longest_file
     → IsStudy bytes study → RefusesNetworks study o → StudyBy Reads name before now (Err o)
 networks_refused name bytes before now study NoMemory e given fits i r = inr e
-networks_refused name bytes before now study (Refused (refusal.Study f)) e given fits i r =
-    refuses Study file.Study IsAccepted RefusesStudy name bytes before now (refusal.Study f) e given fits (r.0, network study i r.1)
-networks_refused name bytes before now study (Refused (refusal.Spectrum f)) e given fits i r = absurd r
-networks_refused name bytes before now study (Refused (refusal.Levels f)) e given fits i r = absurd r
+networks_refused name bytes before now study (Refused q) e given fits i r =
+    refuses Study file.Study IsAccepted RefusesStudy name bytes before now q e given fits (record { fault = r.fault; no_lack = r.no_lack; fails = network study i r.fails; is = r.is })
 networks_refused name bytes before now study WordsRefused e given fits i r = absurd r
 networks_refused name bytes before now study (ReadFailed f) e given fits i r = absurd r
 networks_refused name bytes before now study (TooLarge f) e given fits i r = absurd r
@@ -98,11 +95,11 @@ networks_refused name bytes before now study (Written s) e given fits i r = absu
 pub unread_refused : (name bytes : List ℕ) (before now : ShelfState) (f : StudyFault) (o : Outcome) → now ≡ asked_too before name → IfSome (before.file name) (λ b. bytes ≡ b) → length bytes ≤ longest_file
     → (f ≢ fault.NoMemory → Unread bytes f) → EndsAt fault.NoMemory refusal.Study f o → StudyBy Reads name before now (Err o)
 unread_refused name bytes before now f o e given fits r h =
-    faulty Study file.Study IsAccepted RefusesStudy name bytes before now StudyFault fault.NoMemory refusal.Study f o e given fits (λ n. (n, unread (r n))) h
+    faulty Study file.Study IsAccepted RefusesStudy name bytes before now StudyFault fault.NoMemory refusal.Study f o e given fits (λ n. record { fault = f; no_lack = n; fails = unread (r n); is = refl }) h
 
 pub networks_end : (study : Study) (f : StudyFault) (o : Outcome) → (f ≢ fault.NoMemory → IsNetworksRefusal study f) → EndsAt fault.NoMemory refusal.Study f o → RefusesNetworks study o
 networks_end study f NoMemory r h = tt
-networks_end study f (Refused q) r h = subst (λ (x : Refusal). RefusesNetworks study (Refused x)) (sym h.1) (h.0, r h.0)
+networks_end study f (Refused q) r h = record { fault = f; no_lack = h.0; fails = r h.0; is = h.1 }
 networks_end study f WordsRefused r h = absurd h
 networks_end study f (ReadFailed g) r h = absurd h
 networks_end study f (TooLarge g) r h = absurd h

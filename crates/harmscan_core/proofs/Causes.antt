@@ -9,8 +9,8 @@ use Rattle.spectrum_reader.specs.declared.level.Level.{Level}
 use Rattle.drill_study.specs.Drill.{drill_of}
 use Rattle.study_scans.specs.Report.{report_status}
 use Rattle.limits_report.specs.Report.{limits_status}
-use Rattle.harmscan_core.specs.Words.{Reading, scan, limits, drill, names_in}
-use Rattle.harmscan_core.specs.Subject.{Subject, scanned, distorted, drilled, text_for, status_for, ReadsFor}
+use Rattle.harmscan_core.specs.Words.{Reading, scan, limits, drill, verify, names_in}
+use Rattle.harmscan_core.specs.Subject.{Subject, scanned, distorted, drilled, verified, text_for, status_for, ReadsFor}
 use Rattle.harmscan_core.specs.Outcome.{Reports, IsReported, Happens, ends, reports, HappensFor, status_at, Asks, AsksInOrder, IsWritten, IsRefusal, WritesReport, StopsWithin}
 use Rattle.harmscan_core.specs.declared.outcome.Outcome.{Outcome}
 use Rattle.harmscan_core.specs.declared.outcome.Outcome.TheVariants.{WordsRefused, ReadFailed, TooLarge, Refused, WriteFailed, NoMemory, Written}
@@ -42,6 +42,7 @@ reported : (subject : Subject) → IsReportStatus (status_for subject)
 reported (scanned study) = study_status study
 reported (distorted study rows levels) = distorted_status study rows levels
 reported (drilled number) = study_status (drill_of number)
+reported (verified study rows) = record { one = λ e. omega arith; two = λ e. omega arith; five = λ e. omega arith; six = λ e. omega arith; seven = λ e. omega arith }
 
 -- the status of a run that ends at its files
 record IsEndStatus (s : ℕ) : Type 0 where
@@ -162,6 +163,7 @@ asks_files None s t out out' o h = h.1
 asks_files (Some (scan study)) s t out out' o h = names_in_order (scan study) s t out out' o h
 asks_files (Some (limits study spectrum levels)) s t out out' o h = names_in_order (limits study spectrum levels) s t out out' o h
 asks_files (Some (drill number)) s t out out' o h = drill_stays number s t out out' o h
+asks_files (Some (verify study report)) s t out out' o h = names_in_order (verify study report) s t out out' o h
 
 apart_from : (n : ℕ) → IsWritten n → n ≢ 0 → n ≢ 3 → n ≢ 4 → ⊥
 apart_from n (inl h) a b c = a h

@@ -32,7 +32,6 @@ use Rattle.harmscan_core.specs.Texts.{summary_text, end_text, drill_head_text, c
 use Rattle.study_scans.specs.Claim.{HoldsOfStudy}
 use Rattle.harmscan_core.specs.Outcome.{IsReported, Reports, RefusesNetworks, outcome_of_put}
 use Rattle.harmscan_core.specs.Subject.{drilled}
-use Rattle.harmscan_core.specs.declared.files.Refusal.TheVariants as refusal
 use Rattle.harmscan_core.specs.declared.outcome.Outcome.{Outcome}
 use Rattle.harmscan_core.specs.declared.outcome.Outcome.TheVariants.{WordsRefused, ReadFailed, TooLarge, Refused, WriteFailed, NoMemory, Written}
 use Rattle.study_scans.proofs.Folds.{summary_is, found_is}
@@ -70,9 +69,7 @@ scan_is_lawful number =
 -- a drill's networks are not refused
 pub not_accepted : (number : ℕ) (study : Study) (o : Outcome) (out : SinkState) → study ≡ drill_of number → RefusesNetworks study o → Reports (drilled number) out out o
 not_accepted number study NoMemory out same r = inl refl
-not_accepted number study (Refused (refusal.Study f)) out same r = absurd (no_networks_refusal (drill_of number) (has_live number) f (subst (λ (s : Study). IsNetworksRefusal s f) same r.1))
-not_accepted number study (Refused (refusal.Spectrum f)) out same r = absurd r
-not_accepted number study (Refused (refusal.Levels f)) out same r = absurd r
+not_accepted number study (Refused q) out same r = absurd (no_networks_refusal (drill_of number) (has_live number) r.fault (subst (λ (s : Study). IsNetworksRefusal s r.fault) same r.fails))
 not_accepted number study WordsRefused out same r = absurd r
 not_accepted number study (ReadFailed f) out same r = absurd r
 not_accepted number study (TooLarge f) out same r = absurd r

@@ -12,3 +12,4 @@ pub mod Written
 pub mod Plans
 pub mod Drills
 pub mod Distorted
+pub mod Rights

@@ -1,5 +1,5 @@
 -- Bytes are one spectrum at most beside a study, or are refused for one fault at most, and not both; and so for planning levels.
-use Rattle.std.proofs.Common.{◌≡◌, ◌≢◌, ◌⊎◌, inl, inr, ◌≤◌, ◌<◌, ℕ, zero, suc, ◌+◌, List, [], ◌∷◌, length, Option, Some, None, IfSome, Ok, Err, ap, subst, arith}
+use Rattle.std.proofs.Common.{◌≡◌, ◌≢◌, ◌⊎◌, inl, inr, ◌≤◌, ◌<◌, ℕ, zero, suc, ◌+◌, List, [], ◌∷◌, length, Option, Some, None, IfSome, Ok, Err, ap, refl, subst, arith}
 use Rattle.std.specs.Prelude.{All, IsSomeAnd, slice_get}
 use Rattle.harm_io.specs.Shelves.{ShelfState, asked_too, Fetches}
 use Rattle.harm_io.specs.declared.shelf.FetchFault.{FetchFault}
@@ -23,7 +23,7 @@ use Rattle.harmscan_core.specs.declared.files.Refusal.{Refusal}
 use Rattle.harmscan_core.specs.declared.files.Refusal.TheVariants as refusal
 use Rattle.harmscan_core.specs.declared.outcome.Outcome.{Outcome}
 use Rattle.harmscan_core.proofs.Chains.{IsDecided}
-use Rattle.harmscan_core.proofs.Accepted.{unfetched, faulty}
+use Rattle.harmscan_core.proofs.Accepted.{decided, unfetched, faulty}
 
 -- ---- paths
 -- a row that hasn't what all have
@@ -69,20 +69,8 @@ same_spectrum_fault study bytes f g (no_path rows e n) (unread d) = absurd (cc)
 same_spectrum_fault study bytes f g (no_path rows e n) (no_path others d m) =
     same_row study others f g (subst (λ (x : List Injection). IsNoPath study x f) (same_rows study bytes rows others e d) n.first) m.first
 
-spectrum_not_both : (study : Study) (bytes : List ℕ) (rows : List Injection) (r : Refusal) → IsSpectrum study bytes rows → RefusesSpectrum study bytes r → ⊥
-spectrum_not_both study bytes rows (refusal.Spectrum f) h k = not_spectrum study bytes rows f h k.1
-spectrum_not_both study bytes rows (refusal.Study f) h k = absurd k
-spectrum_not_both study bytes rows (refusal.Levels f) h k = absurd k
-
-one_spectrum_refusal : (study : Study) (bytes : List ℕ) (q r : Refusal) → RefusesSpectrum study bytes q → RefusesSpectrum study bytes r → q ≡ r
-one_spectrum_refusal study bytes (refusal.Spectrum f) (refusal.Spectrum g) h k = ap refusal.Spectrum (same_spectrum_fault study bytes f g h.1 k.1)
-one_spectrum_refusal study bytes (refusal.Spectrum f) (refusal.Study g) h k = absurd k
-one_spectrum_refusal study bytes (refusal.Spectrum f) (refusal.Levels g) h k = absurd k
-one_spectrum_refusal study bytes (refusal.Study f) r h k = absurd h
-one_spectrum_refusal study bytes (refusal.Levels f) r h k = absurd h
-
 pub spectrum_decided : (study : Study) → IsDecided (IsSpectrum study) (RefusesSpectrum study)
-spectrum_decided study = record { one = one_spectrum study; not_both = spectrum_not_both study; one_refusal = one_spectrum_refusal study }
+spectrum_decided study = decided (IsSpectrum study) spectrum_fault.NoMemory refusal.Spectrum (IsRefusedSpectrum study) (one_spectrum study) (not_spectrum study) (same_spectrum_fault study)
 
 pub spectrum_unfetched : (study : Study) (name : List ℕ) (before now : ShelfState) (f : FetchFault) (o : Outcome) → Fetches name longest_file before now (Err f) → o ≡ outcome_of_fetch file.Spectrum f
     → SpectrumBy Reads study name before now (Err o)
@@ -92,33 +80,27 @@ spectrum_unfetched study name before now f o = unfetched (List Injection) file.S
 pub unread_refused : (study : Study) (name bytes : List ℕ) (before now : ShelfState) (f : SpectrumFault) (o : Outcome) → now ≡ asked_too before name → IfSome (before.file name) (λ b. bytes ≡ b)
     → length bytes ≤ longest_file → (f ≢ spectrum_fault.NoMemory → spectrum_of study bytes ≡ Err f) → EndsAt spectrum_fault.NoMemory refusal.Spectrum f o → SpectrumBy Reads study name before now (Err o)
 unread_refused study name bytes before now f o e given fits r h =
-    faulty (List Injection) file.Spectrum (IsSpectrum study) (RefusesSpectrum study) name bytes before now SpectrumFault spectrum_fault.NoMemory refusal.Spectrum f o e given fits (λ n. (n, unread (r n))) h
+    faulty (List Injection) file.Spectrum (IsSpectrum study) (RefusesSpectrum study) name bytes before now SpectrumFault spectrum_fault.NoMemory refusal.Spectrum f o e given fits (λ n. record { fault = f; no_lack = n; fails = unread (r n); is = refl }) h
 
 -- they are one of which a current has no path
 pub pathless_refused : (study : Study) (name bytes : List ℕ) (rows : List Injection) (before now : ShelfState) (f : SpectrumFault) (o : Outcome) → now ≡ asked_too before name
     → IfSome (before.file name) (λ b. bytes ≡ b) → length bytes ≤ longest_file → spectrum_of study bytes ≡ Ok rows → (f ≢ spectrum_fault.NoMemory → IsPathless study rows f)
     → EndsAt spectrum_fault.NoMemory refusal.Spectrum f o → SpectrumBy Reads study name before now (Err o)
 pathless_refused study name bytes rows before now f o e given fits read r h =
-    faulty (List Injection) file.Spectrum (IsSpectrum study) (RefusesSpectrum study) name bytes before now SpectrumFault spectrum_fault.NoMemory refusal.Spectrum f o e given fits (λ n. (n, no_path rows read (r n))) h
+    faulty (List Injection) file.Spectrum (IsSpectrum study) (RefusesSpectrum study) name bytes before now SpectrumFault spectrum_fault.NoMemory refusal.Spectrum f o e given fits (λ n. record { fault = f; no_lack = n; fails = no_path rows read (r n); is = refl }) h
 
 -- ---- planning levels
 one_levels : (study : Study) (bytes : List ℕ) (a b : List Level) → AreLevels study bytes a → AreLevels study bytes b → a ≡ b
 one_levels study bytes a b h k = cc
 
-levels_not_both : (study : Study) (bytes : List ℕ) (rows : List Level) (r : Refusal) → AreLevels study bytes rows → RefusesLevels study bytes r → ⊥
-levels_not_both study bytes rows (refusal.Levels f) h k = let e = k.1 in cc
-levels_not_both study bytes rows (refusal.Study f) h k = absurd k
-levels_not_both study bytes rows (refusal.Spectrum f) h k = absurd k
+not_levels : (study : Study) (bytes : List ℕ) (rows : List Level) (f : LevelsFault) → AreLevels study bytes rows → levels_of study bytes ≡ Err f → ⊥
+not_levels study bytes rows f h k = cc
 
-one_levels_refusal : (study : Study) (bytes : List ℕ) (q r : Refusal) → RefusesLevels study bytes q → RefusesLevels study bytes r → q ≡ r
-one_levels_refusal study bytes (refusal.Levels f) (refusal.Levels g) h k = let e = h.1 in let d = k.1 in cc
-one_levels_refusal study bytes (refusal.Levels f) (refusal.Study g) h k = absurd k
-one_levels_refusal study bytes (refusal.Levels f) (refusal.Spectrum g) h k = absurd k
-one_levels_refusal study bytes (refusal.Study f) r h k = absurd h
-one_levels_refusal study bytes (refusal.Spectrum f) r h k = absurd h
+same_levels_fault : (study : Study) (bytes : List ℕ) (f g : LevelsFault) → levels_of study bytes ≡ Err f → levels_of study bytes ≡ Err g → f ≡ g
+same_levels_fault study bytes f g h k = cc
 
 pub levels_decided : (study : Study) → IsDecided (AreLevels study) (RefusesLevels study)
-levels_decided study = record { one = one_levels study; not_both = levels_not_both study; one_refusal = one_levels_refusal study }
+levels_decided study = decided (AreLevels study) levels_fault.NoMemory refusal.Levels (λ bytes f. levels_of study bytes ≡ Err f) (one_levels study) (not_levels study) (same_levels_fault study)
 
 pub levels_unfetched : (study : Study) (name : List ℕ) (before now : ShelfState) (f : FetchFault) (o : Outcome) → Fetches name longest_file before now (Err f) → o ≡ outcome_of_fetch file.Levels f
     → Reads (List Level) file.Levels (AreLevels study) (RefusesLevels study) name before now (Err o)
@@ -129,4 +111,4 @@ pub levels_refused : (study : Study) (name bytes : List ℕ) (before now : Shelf
     → length bytes ≤ longest_file → (f ≢ levels_fault.NoMemory → levels_of study bytes ≡ Err f) → EndsAt levels_fault.NoMemory refusal.Levels f o
     → Reads (List Level) file.Levels (AreLevels study) (RefusesLevels study) name before now (Err o)
 levels_refused study name bytes before now f o e given fits r h =
-    faulty (List Level) file.Levels (AreLevels study) (RefusesLevels study) name bytes before now LevelsFault levels_fault.NoMemory refusal.Levels f o e given fits (λ n. (n, r n)) h
+    faulty (List Level) file.Levels (AreLevels study) (RefusesLevels study) name bytes before now LevelsFault levels_fault.NoMemory refusal.Levels f o e given fits (λ n. record { fault = f; no_lack = n; fails = r n; is = refl }) h

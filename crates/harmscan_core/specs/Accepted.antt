@@ -1,5 +1,5 @@
 -- Which files are accepted, and why their bytes are refused.
-use Rattle.std.specs.Prelude.{◌≡◌, ◌≢◌, ℕ, List, Ok, Err}
+use Rattle.std.specs.Prelude.{◌≡◌, ◌≢◌, ℕ, List, Some, None, Ok, Err}
 use Rattle.study_model.specs.declared.fault.StudyFault.{StudyFault}
 use Rattle.study_model.specs.declared.fault.StudyFault.TheVariants as fault
 use Rattle.study_model.specs.declared.records.Study.{Study}
@@ -13,6 +13,12 @@ use Rattle.spectrum_reader.specs.declared.fault.SpectrumFault.{SpectrumFault}
 use Rattle.spectrum_reader.specs.declared.fault.SpectrumFault.TheVariants as spectrum_fault
 use Rattle.spectrum_reader.specs.declared.fault.LevelsFault.TheVariants as levels_fault
 use Rattle.harmonic_injection.specs.Paths.{HavePaths, IsPathless}
+use Rattle.scan_report.specs.Reading.{IsReport, BadLine}
+use Rattle.scan_report.specs.declared.rows.Row.{Row}
+use Rattle.scan_report.specs.declared.reading.ReportFault.TheVariants as report_fault
+use Rattle.report_verify.specs.FirstFault.{first_fault}
+use Rattle.report_verify.specs.declared.fault.VerifyFault.{VerifyFault}
+use Rattle.report_verify.specs.declared.fault.VerifyFault.TheVariants as verify_fault
 use Rattle.harmscan_core.specs.declared.files.Refusal.{Refusal}
 use Rattle.harmscan_core.specs.declared.files.Refusal.TheVariants as refusal
 
@@ -40,17 +46,37 @@ pub data IsRefusedSpectrum (study : Study) (bytes : List ℕ) (fault : SpectrumF
 abbrev pub AreLevels : Study → List ℕ → List Level → Type 0
 AreLevels study bytes rows = levels_of study bytes ≡ Ok rows
 
+-- the bytes are a report that is right of a study: no check of its lines fails
+pub record IsRightReport (study : Study) (bytes : List ℕ) (rows : List Row) : Type 0 where
+  pub read : IsReport bytes rows
+  pub right : first_fault study rows ≡ None
+
+-- the bytes are a report of whose lines a check fails, the first of them for this fault
+pub record IsWrongReport (study : Study) (bytes : List ℕ) (fault : VerifyFault) : Type 0 where
+  pub rows : List Row
+  pub read : IsReport bytes rows
+  pub wrong : first_fault study rows ≡ Some fault
+
+-- a refusal that is for a fault of which this holds, and which isn't want of memory
+pub record RefusedFor {F : Type 0} (no_memory : F) (refused : F → Refusal) (Fails : F → Type 0) (r : Refusal) : Type 0 where
+  pub fault : F
+  pub no_lack : fault ≢ no_memory
+  pub fails : Fails fault
+  pub is : r ≡ refused fault
+
 -- a study's bytes are refused for this
 abbrev pub RefusesStudy : List ℕ → Refusal → Type 0
-RefusesStudy bytes (refusal.Study f) = (f ≢ fault.NoMemory) × IsRefused bytes f
-RefusesStudy bytes _ = ⊥
+RefusesStudy bytes = RefusedFor fault.NoMemory refusal.Study (IsRefused bytes)
 
 -- a spectrum's bytes are
 abbrev pub RefusesSpectrum : Study → List ℕ → Refusal → Type 0
-RefusesSpectrum study bytes (refusal.Spectrum f) = (f ≢ spectrum_fault.NoMemory) × IsRefusedSpectrum study bytes f
-RefusesSpectrum study bytes _ = ⊥
+RefusesSpectrum study bytes = RefusedFor spectrum_fault.NoMemory refusal.Spectrum (IsRefusedSpectrum study bytes)
 
--- and a levels file's
+-- a levels file's are
 abbrev pub RefusesLevels : Study → List ℕ → Refusal → Type 0
-RefusesLevels study bytes (refusal.Levels f) = (f ≢ levels_fault.NoMemory) × (levels_of study bytes ≡ Err f)
-RefusesLevels study bytes _ = ⊥
+RefusesLevels study bytes = RefusedFor levels_fault.NoMemory refusal.Levels (λ f. levels_of study bytes ≡ Err f)
+
+-- and a report's: they are none, or one that isn't right of the study
+pub data RefusesReport (study : Study) (bytes : List ℕ) (r : Refusal) : Type 0 where
+  unread : RefusedFor report_fault.NoMemory refusal.Report (BadLine bytes) r → RefusesReport study bytes r
+  wrong : RefusedFor verify_fault.NoMemory refusal.Verify (IsWrongReport study bytes) r → RefusesReport study bytes r

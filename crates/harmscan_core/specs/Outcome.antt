@@ -9,9 +9,10 @@ use Rattle.harm_io.specs.declared.sink.PutFault.TheVariants as put
 use Rattle.study_model.specs.declared.records.Study.{Study}
 use Rattle.study_model.specs.declared.fault.StudyFault.TheVariants as fault
 use Rattle.study_networks.specs.Networks.{IsNetworksRefusal}
+use Rattle.harmscan_core.specs.Accepted.{RefusedFor}
 use Rattle.harmscan_core.specs.Lines.{line_at}
 use Rattle.harmscan_core.specs.Subject.{Subject, text_for, status_for, Claims, ReadsFor}
-use Rattle.harmscan_core.specs.Words.{Reading, scan, limits, drill, names_in}
+use Rattle.harmscan_core.specs.Words.{Reading, scan, limits, drill, verify, names_in}
 use Rattle.harmscan_core.specs.declared.files.File.{File}
 use Rattle.harmscan_core.specs.declared.files.Refusal.{Refusal}
 use Rattle.harmscan_core.specs.declared.files.Refusal.TheVariants as refusal
@@ -38,7 +39,7 @@ EndsAt no_memory refused f _ = ⊥
 -- how a run ends whose study's networks are refused, or that lacks the memory to build them
 abbrev pub RefusesNetworks : Study → Outcome → Type 0
 RefusesNetworks study outcome.NoMemory = Unit {0}
-RefusesNetworks study (outcome.Refused (refusal.Study f)) = (f ≢ fault.NoMemory) × IsNetworksRefusal study f
+RefusesNetworks study (outcome.Refused r) = RefusedFor fault.NoMemory refusal.Study (IsNetworksRefusal study) r
 RefusesNetworks study _ = ⊥
 
 -- the report of a subject was written whole: all that it claims holds
@@ -107,6 +108,7 @@ Asks None before now = now ≡ before
 Asks (Some (drill number)) before now = now ≡ before
 Asks (Some (scan study)) before now = AsksInOrder (names_in (scan study)) before now
 Asks (Some (limits study spectrum levels)) before now = AsksInOrder (names_in (limits study spectrum levels)) before now
+Asks (Some (verify study report)) before now = AsksInOrder (names_in (verify study report)) before now
 
 -- a status that says that the whole report was written
 abbrev pub IsWritten : ℕ → Type 0

@@ -7,17 +7,19 @@ use Rattle.std.specs.Str.Parse.{digits_value}
 use Rattle.harmscan_core.specs.declared.words.Command.{Command}
 use Rattle.harmscan_core.specs.declared.words.Command.TheVariants as command
 
--- the scan of a study's file, the distortion that a spectrum's file causes in it, beside a levels file or none, or the drill of a number
+-- the scan of a study's file, the distortion that a spectrum's file causes in it, beside a levels file or none, the drill of a number, or whether a report's file is right of a study's
 pub data Reading : Type 0 where
   scan : List ℕ → Reading
   limits : List ℕ → List ℕ → Option (List ℕ) → Reading
   drill : ℕ → Reading
+  verify : List ℕ → List ℕ → Reading
 
 -- the same, where the names of the files are lent
 abbrev pub seen : Command → Reading
 seen (command.Scan study) = scan study.now
 seen (command.Limits study spectrum levels) = limits study.now spectrum.now (option_map (λ name. name.now) levels)
 seen (command.Drill number) = drill number
+seen (command.Verify study report) = verify study.now report.now
 
 -- the names of the files, in the order of the words
 abbrev pub names_in : Reading → List (List ℕ)
@@ -25,6 +27,7 @@ names_in (scan study) = study ∷ []
 names_in (limits study spectrum None) = study ∷ spectrum ∷ []
 names_in (limits study spectrum (Some levels)) = study ∷ spectrum ∷ levels ∷ []
 names_in (drill number) = []
+names_in (verify study report) = study ∷ report ∷ []
 
 -- a word that isn't empty and begins with no dash
 abbrev pub is_file_word : List ℕ → Bool
@@ -52,15 +55,23 @@ reading_of first word =
     then (if is_file_word word then Some (scan word) else None)
     else (if bytes_eq first (codes "drill") then option_map drill (number_in word) else None)
 
--- what `limits` asks for with these names of files
-abbrev pub limits_reading : List ℕ → List (List ℕ) → Option Reading → Option Reading
-limits_reading first names wanted = if bytes_eq first (codes "limits") && list_all is_file_word names then wanted else None
+-- what three words ask for, of the forms `limits STUDY SPECTRUM` and `verify STUDY REPORT`
+abbrev pub reading_of_two : List ℕ → List ℕ → List ℕ → Option Reading
+reading_of_two first study other =
+    if is_file_word study && is_file_word other
+    then (if bytes_eq first (codes "limits") then Some (limits study other None) else (if bytes_eq first (codes "verify") then Some (verify study other) else None))
+    else None
 
--- what the words ask for, where they are of one of these forms, `limits STUDY SPECTRUM` or `limits STUDY SPECTRUM LEVELS`
+-- what four words ask for, of the form `limits STUDY SPECTRUM LEVELS`
+abbrev pub reading_of_three : List ℕ → List ℕ → List ℕ → List ℕ → Option Reading
+reading_of_three first study spectrum levels =
+    if bytes_eq first (codes "limits") && is_file_word study && is_file_word spectrum && is_file_word levels then Some (limits study spectrum (Some levels)) else None
+
+-- what the words ask for, where they are of one of these forms
 abbrev pub reading : List (List ℕ) → Option Reading
 reading [] = None
 reading (first ∷ []) = None
 reading (first ∷ word ∷ []) = reading_of first word
-reading (first ∷ study ∷ spectrum ∷ []) = limits_reading first (study ∷ spectrum ∷ []) (Some (limits study spectrum None))
-reading (first ∷ study ∷ spectrum ∷ levels ∷ []) = limits_reading first (study ∷ spectrum ∷ levels ∷ []) (Some (limits study spectrum (Some levels)))
+reading (first ∷ study ∷ other ∷ []) = reading_of_two first study other
+reading (first ∷ study ∷ spectrum ∷ levels ∷ []) = reading_of_three first study spectrum levels
 reading (first ∷ study ∷ spectrum ∷ levels ∷ fifth ∷ more) = None

@@ -2,6 +2,8 @@
 ghost use Rattle.std.specs.Prelude.{◌≡◌, ◌≤◌, length};
 ghost use Rattle.harmscan_core.specs.Lines.{file_text};
 
+use report_verify::VerifyFault;
+use scan_report::ReportFault;
 use spectrum_reader::{LevelsFault, SpectrumFault};
 use study_model::StudyFault;
 
@@ -11,6 +13,7 @@ pub enum File {
     Study,
     Spectrum,
     Levels,
+    Report,
 }
 
 impl File {
@@ -23,6 +26,7 @@ impl File {
             File::Study => "study",
             File::Spectrum => "spectrum",
             File::Levels => "levels",
+            File::Report => "report",
         }
     }
 }
@@ -33,4 +37,8 @@ pub enum Refusal {
     Study(StudyFault),
     Spectrum(SpectrumFault),
     Levels(LevelsFault),
+    /// Its bytes are no report.
+    Report(ReportFault),
+    /// It is a report that isn't right of the study.
+    Verify(VerifyFault),
 }

@@ -6,17 +6,22 @@ ghost use Rattle.spectrum_reader.specs.Lawful.{IsLawfulSpectrum};
 ghost use Rattle.spectrum_reader.specs.declared.level.Level.{Level};
 ghost use Rattle.harmscan_core.specs.Accepted.{AreLevels, RefusesLevels};
 ghost use Rattle.harmscan_core.specs.Files.{Reads};
-ghost use Rattle.harmscan_core.specs.Inputs.{study_alone, injections_in, levels_in, subject_of};
+ghost use Rattle.harmscan_core.specs.Inputs.{study_alone, injections_in, levels_in, rows_in, subject_of, checked_of, IsVerified};
 ghost use Rattle.harmscan_core.specs.Outcome.{RefusesNetworks};
-ghost use Rattle.harmscan_core.specs.Subject.{StudyBy, SpectrumBy, LevelsBy, ReadsFor};
-ghost use Rattle.harmscan_core.specs.Words.{limits};
+ghost use Rattle.harmscan_core.specs.Subject.{StudyBy, SpectrumBy, LevelsBy, ReportBy, ReadsFor};
+ghost use Rattle.harmscan_core.specs.Words.{limits, verify};
 ghost use Rattle.harmscan_core.specs.declared.files.File.TheVariants as file;
 
 use crate::files::File;
 use crate::limits::LONGEST_FILE;
-use crate::outcome::{Outcome, after_fault, after_fetch, after_levels_fault, after_spectrum_fault};
+use crate::outcome::{
+    Outcome, after_fault, after_fetch, after_levels_fault, after_report_fault,
+    after_spectrum_fault, after_verify_fault,
+};
 use harm_io::Shelf;
 use harmonic_injection::check_paths;
+use report_verify::{Verified, verify};
+use scan_report::{Report, read_report};
 use spectrum_reader::{Levels, Spectrum, read_levels, read_spectrum};
 use sqlite_items::Items;
 use std::alloc::Global;
@@ -38,6 +43,20 @@ pub struct Inputs {
     pub accepted: AcceptedStudy,
     pub spectrum: Spectrum,
     pub levels: Levels,
+}
+
+/// A report that is right of a study, with the numbers of its scans and boxes.
+#[derive(Drop)]
+pub struct RightReport {
+    pub report: Report,
+    pub verified: Verified,
+}
+
+/// What `verify` reads: a study that is accepted, and a report that is right of it.
+#[derive(Drop)]
+pub struct Checked {
+    pub accepted: AcceptedStudy,
+    pub right: RightReport,
 }
 
 /// The networks of a study, where they are accepted.
@@ -172,6 +191,53 @@ pub fn inputs_from<F: Shelf>(
             spectrum,
             levels,
         }),
+        Err(outcome) => Err(outcome),
+    }
+}
+
+/// The report of a file, where it is right of a study.
+#[tactic(auto, using(crate::proofs::Rights::report_unfetched, crate::proofs::Rights::report_unread, crate::proofs::Rights::report_wrong))]
+fn right_report_from<F: Shelf>(
+    alloc: Global,
+    accepted: &AcceptedStudy,
+    name: &str,
+    shelf: &mut F,
+) -> Result<RightReport, Outcome>
+    requires study { IsLawful accepted.now.study }
+    requires networks { AreNetworksOf accepted.now.study accepted.now.networks }
+    ensures read { ReportBy Reads accepted.now.study name.now (F.state shelf.old) (F.state shelf.new) (rows_in result) }
+    ensures verified { IfOk result (IsVerified accepted.now.study) }
+{
+    let bytes = match shelf.fetch(alloc, name, LONGEST_FILE) {
+        Ok(bytes) => bytes,
+        Err(fault) => return Err(after_fetch(File::Report, fault)),
+    };
+    let report = match read_report(alloc, &bytes) {
+        Ok(report) => report,
+        Err(fault) => return Err(after_report_fault(fault)),
+    };
+    match verify(alloc, &accepted.study, &accepted.networks, &report) {
+        Ok(verified) => Ok(RightReport { report, verified }),
+        Err(fault) => Err(after_verify_fault(fault)),
+    }
+}
+
+/// All that `verify` reads, in the order of the words.
+pub fn checked_from<F: Shelf>(
+    alloc: Global,
+    study: &str,
+    report: &str,
+    shelf: &mut F,
+) -> Result<Checked, Outcome>
+    ensures read { ReadsFor (verify study.now report.now) (F.state shelf.old) (F.state shelf.new) (checked_of result) }
+    ensures verified { IfOk result (λ checked. IsVerified checked.accepted.study checked.right) }
+{
+    let accepted = match study_from(alloc, study, shelf) {
+        Ok(accepted) => accepted,
+        Err(outcome) => return Err(outcome),
+    };
+    match right_report_from(alloc, &accepted, report, shelf) {
+        Ok(right) => Ok(Checked { accepted, right }),
         Err(outcome) => Err(outcome),
     }
 }

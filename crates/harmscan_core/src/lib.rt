@@ -10,6 +10,7 @@ mod lines;
 mod outcome;
 mod perform;
 mod report;
+mod verified;
 mod words;
 
 pub use files::{File, Refusal};

@@ -1,13 +1,15 @@
 // The lines on standard error. Each is put once, and a failure there changes no status, since the status is the answer.
 ghost use Rattle.std.specs.Prelude.{◌≡◌, ◌+◌, ◌≤◌, ◌++◌, length, Some, None, if◌then◌else◌};
+ghost use Rattle.std.specs.Fmt.{decimal};
 ghost use Rattle.spectrum_reader.specs.Faults.{spectrum_printed, levels_printed};
-ghost use Rattle.harmscan_core.specs.Lines.{line_at, place_text, number_text, refusal_text, row_number_text, printed_text, refused_text};
+ghost use Rattle.harmscan_core.specs.Lines.{line_at, place_text, number_text, refusal_text, row_number_text, printed_text, report_text, verify_text, refused_text};
 ghost use Rattle.harmscan_core.specs.Outcome.{Says};
 
 use crate::files::Refusal;
 use crate::outcome::Outcome;
 use harm_io::Sink;
-use scan_report::{LineBuf, push_number};
+use report_verify::VerifyFault;
+use scan_report::{LineBuf, ReportFault, push_number};
 use spectrum_reader::{LevelsFault, SpectrumFault};
 use study_model::{Place, StudyFault};
 
@@ -86,6 +88,45 @@ fn push_levels_refusal(line: &mut LineBuf, fault: LevelsFault)
     push_row_number(line, fault.row());
 }
 
+// A fault's number and name, and the number of a line.
+fn push_at_line(line: &mut LineBuf, fault: &[u8], number: u32)
+    requires { length line.old + length fault.now + 10 ≤ 256 }
+    ensures text { line.new ≡ line.old ++ fault.now ++ decimal number }
+    ensures len { length line.new ≤ length line.old + length fault.now + 10 }
+{
+    line.push_text(fault);
+    push_number(line, number);
+}
+
+/// Why bytes are no report.
+fn push_report_refusal(line: &mut LineBuf, fault: ReportFault)
+    requires { length line.old + 25 ≤ 256 }
+    ensures text { line.new ≡ line.old ++ report_text fault }
+    ensures len { length line.new ≤ length line.old + 25 }
+{
+    match fault {
+        ReportFault::BadRow(number) => push_at_line(line, b"1 BadRow ", number),
+        ReportFault::NoMemory => (),
+    }
+}
+
+/// Why a report isn't right of a study.
+fn push_verify_refusal(line: &mut LineBuf, fault: VerifyFault)
+    requires { length line.old + 25 ≤ 256 }
+    ensures text { line.new ≡ line.old ++ verify_text fault }
+    ensures len { length line.new ≤ length line.old + 25 }
+{
+    match fault {
+        VerifyFault::WrongScan(number) => push_at_line(line, b"2 WrongScan ", number),
+        VerifyFault::Gap(number) => push_at_line(line, b"3 Gap ", number),
+        VerifyFault::NotCleared(number) => push_at_line(line, b"4 NotCleared ", number),
+        VerifyFault::NotPeak(number) => push_at_line(line, b"5 NotPeak ", number),
+        VerifyFault::NotUndecided(number) => push_at_line(line, b"6 NotUndecided ", number),
+        VerifyFault::WrongCount(number) => push_at_line(line, b"7 WrongCount ", number),
+        VerifyFault::NoMemory => (),
+    }
+}
+
 /// Which file is refused, and why.
 fn push_refusal(line: &mut LineBuf, refusal: &Refusal)
     requires { length line.old + 80 ≤ 256 }
@@ -104,6 +145,14 @@ fn push_refusal(line: &mut LineBuf, refusal: &Refusal)
         Refusal::Levels(fault) => {
             line.push_text(b"levels refused: ");
             push_levels_refusal(line, *fault);
+        }
+        Refusal::Report(fault) => {
+            line.push_text(b"report refused: ");
+            push_report_refusal(line, *fault);
+        }
+        Refusal::Verify(fault) => {
+            line.push_text(b"report refused: ");
+            push_verify_refusal(line, *fault);
         }
     }
 }

@@ -5,6 +5,8 @@ ghost use Rattle.harmscan_core.specs.Outcome.{status_at, outcome_of_fetch, outco
 
 use crate::files::{File, Refusal};
 use harm_io::{FetchFault, PutFault};
+use report_verify::VerifyFault;
+use scan_report::ReportFault;
 use spectrum_reader::{LevelsFault, SpectrumFault};
 use std::io;
 use std::io::ErrorKind;
@@ -82,6 +84,26 @@ pub fn after_levels_fault(fault: LevelsFault) -> Outcome
     match fault {
         LevelsFault::NoMemory => Outcome::NoMemory,
         refusal => Outcome::Refused(Refusal::Levels(refusal)),
+    }
+}
+
+/// How a run ends at the fault of a report's bytes.
+pub fn after_report_fault(fault: ReportFault) -> Outcome
+    ensures { EndsAt ReportFault.NoMemory Refusal.Report fault result }
+{
+    match fault {
+        ReportFault::NoMemory => Outcome::NoMemory,
+        refusal => Outcome::Refused(Refusal::Report(refusal)),
+    }
+}
+
+/// How a run ends at the fault of a report beside a study.
+pub fn after_verify_fault(fault: VerifyFault) -> Outcome
+    ensures { EndsAt VerifyFault.NoMemory Refusal.Verify fault result }
+{
+    match fault {
+        VerifyFault::NoMemory => Outcome::NoMemory,
+        refusal => Outcome::Refused(Refusal::Verify(refusal)),
     }
 }
 

@@ -6,15 +6,16 @@ ghost use Rattle.harm_io.specs.Memory.{names_of};
 ghost use Rattle.study_model.specs.Lawful.{IsLawful};
 ghost use Rattle.study_networks.specs.Networks.{AreNetworksOf};
 ghost use Rattle.harmscan_core.specs.Subject.{Subject, TellsFor, scanned, drilled};
-ghost use Rattle.harmscan_core.specs.Words.{Reading, reading, scan, limits, drill};
+ghost use Rattle.harmscan_core.specs.Words.{Reading, reading, scan, limits, drill, verify};
 ghost use Rattle.harmscan_core.specs.Outcome.{Reports, Happens, HappensFor, Runs, IsComplete, IsWritten, WritesReport, Asks, IsRefusal, StopsWithin, RefusesFor, EndsAtOnce};
 
 use crate::distortion::report_limits;
 use crate::drill::report_drill;
-use crate::inputs::{accepted_networks, inputs_from, study_from};
+use crate::inputs::{accepted_networks, checked_from, inputs_from, study_from};
 use crate::lines::say;
 use crate::outcome::{Outcome, after_put, after_words, status};
 use crate::report::put_report;
+use crate::verified::report_verified;
 use crate::words::{Command, reading};
 use complex_interval::{Enclosure, Span};
 use drill_study::drill_study;
@@ -88,6 +89,22 @@ fn limits<F: Shelf, O: Sink>(
     }
 }
 
+/// Whether a report is right of a study.
+fn verify<F: Shelf, O: Sink>(
+    alloc: Global,
+    study: &str,
+    report: &str,
+    shelf: &mut F,
+    out: &mut O,
+) -> Outcome
+    ensures { Happens (verify study.now report.now) (F.state shelf.old) (F.state shelf.new) (O.state out.old) (O.state out.new) result }
+{
+    match checked_from(alloc, study, report, shelf) {
+        Err(outcome) => outcome,
+        Ok(checked) => report_verified(&checked, out),
+    }
+}
+
 /// The drill of a number. Its study is accepted, whatever the number.
 #[tactic(auto, using(crate::proofs::Drills::is_lawful, crate::proofs::Drills::not_accepted))]
 fn drill<O: Sink>(alloc: Global, number: u32, out: &mut O) -> Outcome
@@ -117,13 +134,14 @@ fn perform<F: Shelf, O: Sink>(
             limits(alloc, study, spectrum, levels, shelf, out)
         }
         Some(Command::Drill(number)) => drill(alloc, number, out),
+        Some(Command::Verify(study, report)) => verify(alloc, study, report, shelf, out),
         None => Outcome::WordsRefused,
     }
 }
 
 /// Runs the words of the command line, and answers the program's status. `words` are without the
-/// program's name; the readings are `scan STUDY`, `limits STUDY SPECTRUM`, `limits STUDY SPECTRUM LEVELS` and
-/// `drill N`.
+/// program's name; the readings are `scan STUDY`, `limits STUDY SPECTRUM`, `limits STUDY SPECTRUM LEVELS`,
+/// `drill N` and `verify STUDY REPORT`.
 pub fn run<F: Shelf, O: Sink, E: Sink>(
     alloc: Global,
     words: &[String],

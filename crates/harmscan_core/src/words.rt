@@ -1,9 +1,9 @@
 // What the words of the command line ask for. They are read by hand, since a reading takes no memory.
-ghost use Rattle.std.specs.Prelude.{◌≡◌, [], ◌∷◌, option_map, Some};
+ghost use Rattle.std.specs.Prelude.{◌≡◌, option_map};
 ghost use Rattle.std.specs.Char.{is_ascii_digit};
 ghost use Rattle.std.specs.List.{list_all};
 ghost use Rattle.harm_io.specs.Memory.{names_of};
-ghost use Rattle.harmscan_core.specs.Words.{is_file_word, has_no_leading_zero, is_number_word, number_in, reading, reading_of, limits_reading, limits, seen};
+ghost use Rattle.harmscan_core.specs.Words.{is_file_word, has_no_leading_zero, is_number_word, number_in, reading, reading_of, reading_of_two, reading_of_three, seen};
 
 /// What the words ask for.
 #[derive(Clone, Copy)]
@@ -14,6 +14,8 @@ pub enum Command<'a> {
     Limits(&'a str, &'a str, Option<&'a str>),
     /// The drill of this number.
     Drill(u32),
+    /// Whether a report is right of a study, by the names of their files.
+    Verify(&'a str, &'a str),
 }
 
 fn is_file_word(word: &[u8]) -> bool
@@ -78,25 +80,29 @@ fn reading_of<'a>(first: &str, word: &'a str) -> Option<Command<'a>>
     }
 }
 
-/// What `limits` with a study and a spectrum asks for.
-fn limits_of_two<'a>(first: &str, study: &'a str, spectrum: &'a str) -> Option<Command<'a>>
-    ensures { option_map seen result ≡ limits_reading first.now (study.now ∷ spectrum.now ∷ []) (Some (limits study.now spectrum.now None)) }
+/// What a command with the names of two files asks for, where it is one.
+fn reading_of_two<'a>(first: &str, study: &'a str, other: &'a str) -> Option<Command<'a>>
+    ensures { option_map seen result ≡ reading_of_two first.now study.now other.now }
 {
-    if first == "limits" && is_file_word(study.as_bytes()) && is_file_word(spectrum.as_bytes()) {
-        Some(Command::Limits(study, spectrum, None))
+    if !is_file_word(study.as_bytes()) || !is_file_word(other.as_bytes()) {
+        None
+    } else if first == "limits" {
+        Some(Command::Limits(study, other, None))
+    } else if first == "verify" {
+        Some(Command::Verify(study, other))
     } else {
         None
     }
 }
 
-/// And with planning levels.
-fn limits_of_three<'a>(
+/// What `limits` with planning levels asks for.
+fn reading_of_three<'a>(
     first: &str,
     study: &'a str,
     spectrum: &'a str,
     levels: &'a str,
 ) -> Option<Command<'a>>
-    ensures { option_map seen result ≡ limits_reading first.now (study.now ∷ spectrum.now ∷ levels.now ∷ []) (Some (limits study.now spectrum.now (Some levels.now))) }
+    ensures { option_map seen result ≡ reading_of_three first.now study.now spectrum.now levels.now }
 {
     if first == "limits"
         && is_file_word(study.as_bytes())
@@ -116,10 +122,8 @@ pub fn reading<'a>(words: &'a [String]) -> Option<Command<'a>>
 {
     match words {
         [first, word] => reading_of(first.as_str(), word.as_str()),
-        [first, study, spectrum] => {
-            limits_of_two(first.as_str(), study.as_str(), spectrum.as_str())
-        }
-        [first, study, spectrum, levels] => limits_of_three(
+        [first, study, other] => reading_of_two(first.as_str(), study.as_str(), other.as_str()),
+        [first, study, spectrum, levels] => reading_of_three(
             first.as_str(),
             study.as_str(),
             spectrum.as_str(),

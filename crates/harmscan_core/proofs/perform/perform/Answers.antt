@@ -19,3 +19,8 @@ pub returns-in-Some-Drill : goal.returns-in-Some-Drill
 returns-in-Some-Drill g c =
     subst (λ (w : Option Reading). HappensFor w (g.F.Shelf.state c.args.shelf.now) (g.F.Shelf.state c.args.shelf.now) (g.O.Sink.state c.args.out.now) (g.O.Sink.state c.drill.new.out) c.drill.result)
     (read_as c.reading.result _ _ _ c.reading.ensures c.in-Some-Drill.is c.in-Some-Drill.field-0-is) (reports (drilled c.in-Some-Drill.number) (record { stays = refl; answer = refl }) c.drill.ensures)
+
+pub returns-in-Some-Verify : goal.returns-in-Some-Verify
+returns-in-Some-Verify g c =
+    subst (λ (w : Option Reading). HappensFor w (g.F.Shelf.state c.args.shelf.now) (g.F.Shelf.state c.verify.new.shelf) (g.O.Sink.state c.args.out.now) (g.O.Sink.state c.verify.new.out) c.verify.result)
+    (read_as c.reading.result _ _ _ c.reading.ensures c.in-Some-Verify.is c.in-Some-Verify.field-0-is) c.verify.ensures
