@@ -37,7 +37,7 @@ const TOO_LARGE: Answer<'static> = Answer {
 
 #[test]
 fn words_without_a_reading(rt: HostRuntime) -> Result<(), Fail> {
-    let cases: [&[&str]; 18] = [
+    let cases: [&[&str]; 25] = [
         &[],
         &["help"],
         &["--help"],
@@ -56,6 +56,13 @@ fn words_without_a_reading(rt: HostRuntime) -> Result<(), Fail> {
         &["drill", "1000000"],
         &["drill", "7", "7"],
         &["Drill", "7"],
+        &["verify"],
+        &["verify", "study.toml"],
+        &["verify", "", "study.toml"],
+        &["verify", "study.toml", ""],
+        &["verify", "study.toml", "-s"],
+        &["verify", "study.toml", "study.toml", "study.toml"],
+        &["Verify", "study.toml", "study.toml"],
     ];
     let mut shelf = shelf_with(rt.alloc(), studies::BELOW_ITS_THRESHOLD.as_bytes())?;
     for words in cases {

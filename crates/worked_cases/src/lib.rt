@@ -44,3 +44,5 @@ mod studies;
 mod torn;
 #[cfg(test)]
 mod variant_refusals;
+#[cfg(test)]
+mod verified;

@@ -4,7 +4,7 @@ use crate::answers::assert_reports;
 use std::test::Fail;
 
 /// examples/moved.toml.
-const MOVED: &str =
+pub const MOVED: &str =
     r#"# The works bus of industrial.toml with a bank of 2.4 MVAr in the place of 4. The six-pulse converters of the works inject at the
 # orders 5, 7, 11 and 13. Is the impedance at most 40 ohms around each of them?
 study = { version = 1, mva = "100" }
@@ -17,7 +17,7 @@ scan = [
 ]
 "#;
 
-const MOVED_REPORT: &str = "\
+pub const MOVED_REPORT: &str = "\
 scan,around-5-and-7,WORKS,positive,4.500000,7.500000,40.000000,elimination
 box,1,4.500000,7.500000,cleared,-,-
 summary,around-5-and-7,1,1,0,0,0
