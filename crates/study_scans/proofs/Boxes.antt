@@ -24,7 +24,7 @@ use Rattle.study_model.specs.declared.records.ScanItem.{ScanItem}
 use Rattle.study_model.specs.declared.records.Study.{Study}
 use Rattle.study_networks.specs.Scanned.{scanned_network, scanned_node}
 use Rattle.study_scans.specs.Fold.{most_boxes}
-use Rattle.study_scans.specs.Scan.{spec_of, ordering_of, live_test, test_over, test_of, boxes_by, boxes_in}
+use Rattle.study_scans.specs.Scan.{spec_of, ordering_of, live_test, test_over, test_of, boxes_by, boxes_for, boxes_in}
 use Rattle.study_scans.proofs.Asked.{spec_in_range, band_testable}
 use Rattle.study_scans.proofs.BoxCount.{boxes_few}
 
@@ -71,10 +71,11 @@ small_scale scale (inl e) = omega (arith, e)
 small_scale scale (inr e) = omega (arith, e)
 
 pub scan_texts : (study : Study) (scan : ScanItem) → IsLawful study → IsLawfulScan study.version study.model study.buses scan → AllByRecursion HasText (boxes_in study scan)
-unfolding boxes_in test_of
+unfolding boxes_for test_of
 scan_texts study scan b s =
     texts_over study.scale (spec_of study scan) (scanned_network study scan) (scanned_network study scan) (scanned_node scan) (small_scale study.scale b.scale) (spec_in_range study scan b s)
 
-pub scan_few : (study : Study) (scan : ScanItem) → IsLawful study → IsLawfulScan study.version study.model study.buses scan → length (boxes_in study scan) < most_boxes
-unfolding boxes_in
-scan_few study scan b s = few_by (test_of study scan) (spec_of study scan) (spec_in_range study scan b s)
+-- by any tests they are few
+pub scan_few : (tests : ScanItem → BoxTest) (study : Study) (scan : ScanItem) → IsLawful study → IsLawfulScan study.version study.model study.buses scan → length (boxes_for tests study scan) < most_boxes
+unfolding boxes_for
+scan_few tests study scan b s = few_by (tests scan) (spec_of study scan) (spec_in_range study scan b s)

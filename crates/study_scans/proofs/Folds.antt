@@ -5,6 +5,7 @@ use Rattle.std.proofs.lemmas.Int.{ints}
 use Rattle.std.proofs.lemmas.List.Sums.{sum_by-append}
 use Rattle.std.specs.Prelude.{count_by, nat_lt, ◌||◌, if◌then◌else◌}
 use Rattle.std.specs.List.{list_any}
+use Rattle.band_subdivision.specs.Boxes.{BoxTest}
 use Rattle.scan_report.specs.declared.boxes.BoxRow.{BoxRow}
 use Rattle.scan_report.specs.declared.boxes.Kind.{Kind}
 use Rattle.scan_report.specs.declared.boxes.Kind.TheVariants.{Cleared, Peak, Undecided}
@@ -20,7 +21,7 @@ use Rattle.study_scans.specs.declared.region.Summit.{Summit}
 use Rattle.study_scans.specs.Regions.{is_cleared, is_peak, is_undecided, count_of, Part, cleared, region, before_parts, parts_of, is_region, summit_with, summit_of, last_end, region_of, row_of_region}
 use Rattle.study_scans.specs.Report.{row_of, box_rows, rows_of_parts, summary_of}
 use Rattle.study_scans.specs.Fold.{better, joined, count_more, tally_more, tallied, no_tally, folded_rows, all_regions, folded_summary, found_too, found_in, nothing_found, found_over}
-use Rattle.study_scans.specs.Scan.{boxes_in}
+use Rattle.study_scans.specs.Scan.{boxes_for}
 
 -- ---- a run with one box more
 last_end_more : (first : BoxRow) (more : List BoxRow) (b : BoxRow) → last_end first (more ++ b ∷ []) ≡ b.hi
@@ -263,8 +264,8 @@ or_both true b c = refl
 or_both false b c = refl
 
 -- a box of this kind was found, or there is one in these scans
-abbrev or_some : (Kind → Bool) → Study → Bool → List ScanItem → Bool
-or_some of_kind study found scans = found || list_any (λ scan. list_any (λ b. of_kind b.kind) (boxes_in study scan)) scans
+abbrev or_some : (Kind → Bool) → (ScanItem → BoxTest) → Study → Bool → List ScanItem → Bool
+or_some of_kind tests study found scans = found || list_any (λ scan. list_any (λ b. of_kind b.kind) (boxes_for tests study scan)) scans
 
 abbrev found_with : Bool → Bool → Found
 found_with peak undecided = record { peak = peak; undecided = undecided }
@@ -272,18 +273,18 @@ found_with peak undecided = record { peak = peak; undecided = undecided }
 same_found : (a a' b b' : Bool) → a ≡ a' → b ≡ b' → found_with a b ≡ found_with a' b'
 same_found a a' b b' e f = cc
 
-some_more : (of_kind : Kind → Bool) (study : Study) (found : Bool) (scan : ScanItem) (scans : List ScanItem) (n : ℕ) → n ≡ count_of of_kind (boxes_in study scan)
-    → or_some of_kind study (found || nat_lt 0 n) scans ≡ or_some of_kind study found (scan ∷ scans)
-some_more of_kind study found scan scans n e =
-    ap (λ (b : Bool). (found || b) || list_any (λ scan. list_any (λ b. of_kind b.kind) (boxes_in study scan)) scans) (ap (nat_lt 0) e ∙ some_counted (λ b. of_kind b.kind) (boxes_in study scan))
-    ∙ or_both found (list_any (λ b. of_kind b.kind) (boxes_in study scan)) (list_any (λ scan. list_any (λ b. of_kind b.kind) (boxes_in study scan)) scans)
+some_more : (of_kind : Kind → Bool) (tests : ScanItem → BoxTest) (study : Study) (found : Bool) (scan : ScanItem) (scans : List ScanItem) (n : ℕ) → n ≡ count_of of_kind (boxes_for tests study scan)
+    → or_some of_kind tests study (found || nat_lt 0 n) scans ≡ or_some of_kind tests study found (scan ∷ scans)
+some_more of_kind tests study found scan scans n e =
+    ap (λ (b : Bool). (found || b) || list_any (λ scan. list_any (λ b. of_kind b.kind) (boxes_for tests study scan)) scans) (ap (nat_lt 0) e ∙ some_counted (λ b. of_kind b.kind) (boxes_for tests study scan))
+    ∙ or_both found (list_any (λ b. of_kind b.kind) (boxes_for tests study scan)) (list_any (λ scan. list_any (λ b. of_kind b.kind) (boxes_for tests study scan)) scans)
 
-found_all : (study : Study) (f : Found) (scans : List ScanItem) → found_in study f scans ≡ record { peak = or_some is_peak study f.peak scans; undecided = or_some is_undecided study f.undecided scans }
-found_all study f [] = same_found _ _ _ _ (or_nothing f.peak) (or_nothing f.undecided)
-found_all study f (scan ∷ scans) =
-    let counts : (tallied no_tally (boxes_in study scan)).counts ≡ and_of no_tally.counts (boxes_in study scan) = counted no_tally (boxes_in study scan) in
-    found_all study (found_too f (tallied no_tally (boxes_in study scan)).counts) scans
-    ∙ same_found _ _ _ _ (some_more is_peak study f.peak scan scans _ (ap (λ (c : Counts). c.peaks) counts ∙ omega arith)) (some_more is_undecided study f.undecided scan scans _ (ap (λ (c : Counts). c.undecided) counts ∙ omega arith))
+found_all : (tests : ScanItem → BoxTest) (study : Study) (f : Found) (scans : List ScanItem) → found_in tests study f scans ≡ record { peak = or_some is_peak tests study f.peak scans; undecided = or_some is_undecided tests study f.undecided scans }
+found_all tests study f [] = same_found _ _ _ _ (or_nothing f.peak) (or_nothing f.undecided)
+found_all tests study f (scan ∷ scans) =
+    let counts : (tallied no_tally (boxes_for tests study scan)).counts ≡ and_of no_tally.counts (boxes_for tests study scan) = counted no_tally (boxes_for tests study scan) in
+    found_all tests study (found_too f (tallied no_tally (boxes_for tests study scan)).counts) scans
+    ∙ same_found _ _ _ _ (some_more is_peak tests study f.peak scan scans _ (ap (λ (c : Counts). c.peaks) counts ∙ omega arith)) (some_more is_undecided tests study f.undecided scan scans _ (ap (λ (c : Counts). c.undecided) counts ∙ omega arith))
 
-pub found_is : (study : Study) → found_in study nothing_found study.scans ≡ found_over study
-found_is study = found_all study nothing_found study.scans
+pub found_is : (tests : ScanItem → BoxTest) (study : Study) → found_in tests study nothing_found study.scans ≡ found_over tests study
+found_is tests study = found_all tests study nothing_found study.scans

@@ -13,7 +13,7 @@ use Rattle.study_model.specs.declared.records.Study.{Study}
 use Rattle.study_networks.specs.Networks.{AreNetworksOf}
 use Rattle.study_networks.specs.declared.networks.StudyNetworks.{StudyNetworks}
 use Rattle.study_scans.specs.Claim.{BoxesHold, HoldsOfScan, HoldsOfStudy, looked_at}
-use Rattle.study_scans.specs.Scan.{spec_of, test_of, boxes_in}
+use Rattle.study_scans.specs.Scan.{spec_of, test_of, boxes_for}
 use Rattle.study_scans.proofs.Asked.{spec_in_range, band_testable}
 use Rattle.study_scans.proofs.Sound.{scan_is_sound}
 
@@ -24,7 +24,7 @@ boxes_hold seen test spec s sound = record {
 }
 
 pub scan_holds : (study : Study) (networks : StudyNetworks) (scan : ScanItem) → IsLawful study → AreNetworksOf study networks → IsLawfulScan study.version study.model study.buses scan → HoldsOfScan study scan
-unfolding boxes_in
+unfolding boxes_for
 scan_holds study networks scan b are s =
     let r = spec_in_range study scan b s in
     record {

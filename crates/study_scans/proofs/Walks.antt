@@ -22,7 +22,7 @@ use Rattle.band_subdivision.specs.declared.scan_spec.ScanSpec.{ScanSpec}
 use Rattle.study_model.specs.declared.records.ScanItem.{ScanItem}
 use Rattle.study_model.specs.declared.records.Study.{Study}
 use Rattle.study_networks.specs.Scanned.{scanned_network, scanned_node}
-use Rattle.study_scans.specs.Scan.{spec_of, ordering_of, live_test, test_over, test_of, boxes_by, boxes_in}
+use Rattle.study_scans.specs.Scan.{spec_of, ordering_of, live_test, test_over, test_of, boxes_by, boxes_for}
 use Rattle.study_scans.specs.Walk.{IsWalkBy, IsWalkOver, IsWalkOf}
 use Rattle.study_scans.proofs.NodeOrderings.{order_is}
 
@@ -102,6 +102,6 @@ walks_of {F} study scan scale spec network node r e asked is at made =
     (subst (λ (k : ℕ). Walks scale spec network k) at made)))
 
 -- it has the boxes of the scan before it
-pub walk_boxes : (study : Study) (scan : ScanItem) (walk : Scanning) → IsWalkOf study scan walk → walk.left ≡ boxes_in study scan
-unfolding boxes_in
-walk_boxes study scan walk is = is.left
+pub walk_boxes : (tests : ScanItem → BoxTest) (study : Study) (scan : ScanItem) (walk : Scanning) → IsWalkBy study.scale (spec_of study scan) (tests scan) walk → walk.left ≡ boxes_for tests study scan
+unfolding boxes_for
+walk_boxes tests study scan walk is = is.left

@@ -1,5 +1,6 @@
 -- What is kept while the boxes of a scan come one after another; proofs/Folds.antt shows that it comes to the regions and counts of a report.
 use Rattle.std.specs.Prelude.{ℕ, ℤ, ◌+◌, ◌-◌, ◌^◌, nat_lt, int_lt, false, ◌||◌, if◌then◌else◌, List, [], ◌∷◌, ◌++◌, Option, Some, None}
+use Rattle.band_subdivision.specs.Boxes.{BoxTest}
 use Rattle.scan_report.specs.declared.boxes.Kind.{Kind}
 use Rattle.scan_report.specs.declared.boxes.Kind.TheVariants.{Cleared, Peak, Undecided}
 use Rattle.scan_report.specs.declared.boxes.BoxRow.{BoxRow}
@@ -14,7 +15,7 @@ use Rattle.study_scans.specs.declared.region.Region.{Region}
 use Rattle.study_scans.specs.declared.region.Summit.{Summit}
 use Rattle.study_scans.specs.Regions.{is_peak, is_undecided, row_of_region}
 use Rattle.study_scans.specs.Report.{row_of, some_box}
-use Rattle.study_scans.specs.Scan.{boxes_in}
+use Rattle.study_scans.specs.Scan.{boxes_for}
 
 -- a scan has fewer boxes than this, so its counts are numbers of 32 bits
 abbrev pub most_boxes : ℕ
@@ -98,14 +99,14 @@ found_too f c = record { peak = f.peak || nat_lt 0 c.peaks; undecided = f.undeci
 abbrev pub nothing_found : Found
 nothing_found = record { peak = false; undecided = false }
 
--- what is found in all scans together
-abbrev pub found_in : Study → Found → List ScanItem → Found
-found_in study f [] = f
-found_in study f (scan ∷ scans) = found_in study (found_too f (tallied no_tally (boxes_in study scan)).counts) scans
+-- what is found in all scans together, where each has a test of its boxes
+abbrev pub found_in : (ScanItem → BoxTest) → Study → Found → List ScanItem → Found
+found_in tests study f [] = f
+found_in tests study f (scan ∷ scans) = found_in tests study (found_too f (tallied no_tally (boxes_for tests study scan)).counts) scans
 
 -- whether some box of a study is a peak, and whether one is undecided
-abbrev pub found_over : Study → Found
-found_over study = record { peak = some_box is_peak study; undecided = some_box is_undecided study }
+abbrev pub found_over : (ScanItem → BoxTest) → Study → Found
+found_over tests study = record { peak = some_box is_peak tests study; undecided = some_box is_undecided tests study }
 
 -- the status by what was found
 abbrev pub status_of : Found → ℕ

@@ -1,6 +1,7 @@
 -- The rows, the text and the status of a study's report.
 use Rattle.std.specs.Prelude.{ℕ, ℤ, ◌+◌, slice_get, unsigned_abs, Bool, if◌then◌else◌, List, [], ◌∷◌, ◌++◌, length, count_by, Option, Some, None}
 use Rattle.std.specs.List.{list_any}
+use Rattle.band_subdivision.specs.Boxes.{BoxTest}
 use Rattle.scan_report.specs.Reading.{text_of}
 use Rattle.scan_report.specs.declared.boxes.Kind.{Kind}
 use Rattle.scan_report.specs.declared.boxes.Kind.TheVariants.{Cleared, Peak, Undecided}
@@ -18,7 +19,7 @@ use Rattle.study_model.specs.declared.records.Bus.{Bus}
 use Rattle.study_model.specs.declared.records.ScanItem.{ScanItem}
 use Rattle.study_model.specs.declared.records.Study.{Study}
 use Rattle.study_scans.specs.Regions.{is_cleared, is_peak, is_undecided, count_of, Part, cleared, region, parts_of, is_region, region_of, row_of_region}
-use Rattle.study_scans.specs.Scan.{boxes_in}
+use Rattle.study_scans.specs.Scan.{test_of, boxes_for}
 
 -- the row of a box
 abbrev pub row_of : ℕ → ℕ → ℕ → Kind → Row
@@ -68,26 +69,34 @@ summary_of scan boxes =
 abbrev pub rows_over : Study → ScanItem → List BoxRow → List Row
 rows_over study scan boxes = head_row study scan ∷ (rows_of_parts study.hz 1 1 (parts_of boxes) ++ summary_of scan boxes ∷ [])
 
--- a scan's rows
-unfoldable pub scan_rows : Study → ScanItem → List Row
-scan_rows study scan = rows_over study scan (boxes_in study scan)
+-- a scan's rows, where each scan has a test of its boxes
+unfoldable pub scan_rows : (ScanItem → BoxTest) → Study → ScanItem → List Row
+scan_rows tests study scan = rows_over study scan (boxes_for tests study scan)
 
 -- whether some box of some scan is of a kind
-abbrev pub some_box : (Kind → Bool) → Study → Bool
-some_box of_kind study = list_any (λ scan. list_any (λ b. of_kind b.kind) (boxes_in study scan)) study.scans
+abbrev pub some_box : (Kind → Bool) → (ScanItem → BoxTest) → Study → Bool
+some_box of_kind tests study = list_any (λ scan. list_any (λ b. of_kind b.kind) (boxes_for tests study scan)) study.scans
 
 -- 3 where some box is a peak, else 4 where one is undecided, else 0
-unfoldable pub report_status : Study → ℕ
-report_status study = if some_box is_peak study then 3 else (if some_box is_undecided study then 4 else 0)
+unfoldable pub status_by : (ScanItem → BoxTest) → Study → ℕ
+status_by tests study = if some_box is_peak tests study then 3 else (if some_box is_undecided tests study then 4 else 0)
 
 -- the rows of scans in order
-abbrev pub rows_of_scans : Study → List ScanItem → List Row
-rows_of_scans study [] = []
-rows_of_scans study (scan ∷ scans) = scan_rows study scan ++ rows_of_scans study scans
+abbrev pub rows_of_scans : (ScanItem → BoxTest) → Study → List ScanItem → List Row
+rows_of_scans tests study [] = []
+rows_of_scans tests study (scan ∷ scans) = scan_rows tests study scan ++ rows_of_scans tests study scans
 
--- the rows of a report: its scans in order, and the last row with the status
+-- the rows of all scans in order, and the last row with the status
+abbrev pub rows_by : (ScanItem → BoxTest) → Study → List Row
+rows_by tests study = rows_of_scans tests study study.scans ++ row.End (status_by tests study) ∷ []
+
+-- the status of a report
+abbrev pub report_status : Study → ℕ
+report_status study = status_by (test_of study) study
+
+-- the rows of a report
 abbrev pub report_rows : Study → List Row
-report_rows study = rows_of_scans study study.scans ++ row.End (report_status study) ∷ []
+report_rows study = rows_by (test_of study) study
 
 -- the bytes of a report
 unfoldable pub report_text : Study → List ℕ

@@ -47,6 +47,10 @@ test_of study scan = test_over study.scale (spec_of study scan) (scanned_network
 abbrev pub boxes_by : BoxTest → ScanSpec → List BoxRow
 boxes_by test spec = boxes_of test (widths_of spec) spec.from spec.to
 
+-- the boxes of a scan, where each scan has a test of its boxes
+unfoldable pub boxes_for : (ScanItem → BoxTest) → Study → ScanItem → List BoxRow
+boxes_for tests study scan = boxes_by (tests scan) (spec_of study scan)
+
 -- the boxes of a scan
-unfoldable pub boxes_in : Study → ScanItem → List BoxRow
-boxes_in study scan = boxes_by (test_of study scan) (spec_of study scan)
+abbrev pub boxes_in : Study → ScanItem → List BoxRow
+boxes_in study = boxes_for (test_of study) study
