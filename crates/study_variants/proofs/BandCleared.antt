@@ -10,7 +10,7 @@ use Rattle.band_subdivision.specs.Truth.{Scanned, IsClearedBox, IsTrueKind, IsTr
 use Rattle.scan_report.specs.declared.boxes.BoxRow.{BoxRow}
 use Rattle.scan_report.specs.declared.boxes.Kind.{Kind}
 use Rattle.scan_report.specs.declared.boxes.Kind.TheVariants.{Cleared, Peak, Undecided}
-use Rattle.study_variants.specs.Kinds.{is_peak, is_undecided, count_of}
+use Rattle.study_scans.specs.Regions.{is_peak, is_undecided, count_of}
 use Rattle.study_variants.proofs.CountedBoxes.{count_first}
 
 -- two boxes side by side

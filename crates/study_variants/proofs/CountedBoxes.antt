@@ -5,7 +5,8 @@ use Rattle.std.specs.Prelude.{count_by}
 use Rattle.scan_report.specs.declared.boxes.BoxRow.{BoxRow}
 use Rattle.scan_report.specs.declared.boxes.Kind.{Kind}
 use Rattle.scan_report.specs.declared.boxes.Kind.TheVariants.{Cleared, Peak, Undecided}
-use Rattle.study_variants.specs.Kinds.{is_cleared, is_peak, is_undecided, count_of, row_of_boxes, with_kind}
+use Rattle.study_scans.specs.Regions.{is_cleared, is_peak, is_undecided, count_of}
+use Rattle.study_variants.specs.Kinds.{row_of_boxes, with_kind}
 use Rattle.study_variants.specs.declared.size_row.SizeRow.{SizeRow}
 
 -- the first one, and the others

@@ -11,22 +11,21 @@ use Rattle.network_theory.specs.Network.{Network, IsWhole}
 use Rattle.network_theory.proofs.More.{between_itself}
 use Rattle.element_parts.specs.PerUnit.{susceptance_of_rating}
 use Rattle.admittance_box.specs.HeldMatrix.{CanAssemble}
-use Rattle.band_subdivision.specs.Boxes.{IsTestable, boxes_of}
+use Rattle.band_subdivision.specs.Boxes.{boxes_of}
 use Rattle.band_subdivision.specs.PairTest.{pair_test}
 use Rattle.band_subdivision.specs.Scan.{Scanning, whole_list}
 use Rattle.band_subdivision.specs.ScanSpec.{IsScanSpec, asked_of, threshold_of, widths_of}
-use Rattle.band_subdivision.specs.Truth.{scanned_by, IsSound}
-use Rattle.band_subdivision.specs.declared.scan_spec.ScanSpec.{ScanSpec}
-use Rattle.band_subdivision.proofs.Covering.{boxes_cover}
+use Rattle.band_subdivision.specs.Truth.{IsSound}
 use Rattle.band_subdivision.proofs.Curves.{levels_hold}
 use Rattle.band_subdivision.proofs.PairSound.{pair_is_sound}
-use Rattle.band_subdivision.proofs.Scans.{from_above, some_width}
-use Rattle.band_subdivision.proofs.Truths.{boxes_are_true}
+use Rattle.band_subdivision.proofs.Scans.{some_width}
+use Rattle.study_scans.specs.Claim.{looked_over, HoldsOfBoxes}
+use Rattle.study_scans.proofs.BoxCount.{boxes_few}
+use Rattle.study_scans.proofs.Holds.{boxes_hold}
 use Rattle.study_variants.specs.Kinds.{row_of_boxes}
 use Rattle.study_variants.specs.Sizes.{Sizing, sizing_of, IsSizing, size_test, size_boxes, size_row, size_network, IsSafe}
 use Rattle.study_variants.specs.declared.size_row.SizeRow.{SizeRow}
 use Rattle.study_variants.proofs.BandCleared.{cover_cleared, all_cleared}
-use Rattle.study_variants.proofs.BoxCount.{boxes_few}
 
 -- ---- a size's susceptance
 pub susceptance_num : (q mva : ℤ) → (susceptance_of_rating q mva).num ≡ q
@@ -74,28 +73,39 @@ unfolding size_row
 row_at_any_time scale c given q = refl
 
 -- ---- a size without peaks and undecided boxes
-band_testable : (spec : ScanSpec) → IsScanSpec spec → IsTestable spec.from spec.from spec.to
-band_testable spec s = record { above = from_above spec s; begins = omega arith; ordered = omega (arith, s.band) }
-
+-- its test is sound for the network with the bank
 size_sound : (scale : ℕ) (c : Sizing) (q : ℤ) → IsScanSpec c.spec → IsWhole c.network → CanAssemble c.network c.network c.driven c.ordering → pos 1 ≤ℤ q
-    → IsSound c.spec.from (scanned_by (threshold_of c.spec) c.spec.kv c.spec.mva (size_network c q) c.driven) (size_test scale c q)
+    → IsSound c.spec.from (looked_over c.spec (size_network c q) c.driven) (size_test scale c q)
 size_sound scale c q s whole ready above =
     let e = susceptance_of_rating q c.spec.mva in
     let num : pos 1 ≤ℤ e.num = subst (λ z. pos 1 ≤ℤ z) (sym (susceptance_num q c.spec.mva)) above in
     let natural : pos 0 ≤ℤ e.num = omega (arith, ints, num) in
-    subst (λ (n : Network). IsSound c.spec.from (scanned_by (threshold_of c.spec) c.spec.kv c.spec.mva n c.driven) (size_test scale c q)) (shunt_added c.network c.driven e num)
+    subst (λ (n : Network). IsSound c.spec.from (looked_over c.spec n c.driven) (size_test scale c q)) (shunt_added c.network c.driven e num)
     (pair_is_sound scale c.spec.from (threshold_of c.spec) c.spec.kv c.spec.mva (asked_of c.spec) c.network c.network c.driven c.ordering e
     (levels_hold c.spec s.levels) ready natural c.network (between_itself c.network whole))
+
+-- what its boxes say is true of that network
+pub size_holds : (scale : ℕ) (c : Sizing) (q : ℤ) → IsScanSpec c.spec → IsWhole c.network → CanAssemble c.network c.network c.driven c.ordering → pos 1 ≤ℤ q
+    → HoldsOfBoxes (looked_over c.spec (size_network c q) c.driven) (size_test scale c q) c.spec (size_boxes scale c q)
+size_holds scale c q s whole ready above = boxes_hold (looked_over c.spec (size_network c q) c.driven) (size_test scale c q) c.spec s (size_sound scale c q s whole ready above)
 
 pub safe_size : (scale : ℕ) (c : Sizing) (q : ℤ) (row : SizeRow) → IsScanSpec c.spec → IsWhole c.network → CanAssemble c.network c.network c.driven c.ordering → pos 1 ≤ℤ q
     → row ≡ row_of_boxes q (size_boxes scale c q) → row.peaks ≡ 0 → row.undecided ≡ 0 → IsSafe c q
 safe_size scale c q row s whole ready above is peaks undecided =
-    let seen = scanned_by (threshold_of c.spec) c.spec.kv c.spec.mva (size_network c q) c.driven in
-    let test = size_test scale c q in
-    cover_cleared seen (size_boxes scale c q) c.spec.from c.spec.to
-    (boxes_cover test (widths_of c.spec) c.spec.from c.spec.to (some_width _ s) s.band)
-    (all_cleared seen test (widths_of c.spec) (size_boxes scale c q) (sym (ap (λ (r : SizeRow). r.peaks) is) ∙ peaks) (sym (ap (λ (r : SizeRow). r.undecided) is) ∙ undecided)
-    (boxes_are_true c.spec.from seen test (widths_of c.spec) c.spec.from c.spec.to (size_sound scale c q s whole ready above) (some_width _ s) s.locate s.band (band_testable c.spec s)))
+    let seen = looked_over c.spec (size_network c q) c.driven in
+    let holds = size_holds scale c q s whole ready above in
+    cover_cleared seen (size_boxes scale c q) c.spec.from c.spec.to holds.covers
+    (all_cleared seen (size_test scale c q) (widths_of c.spec) (size_boxes scale c q) (sym (ap (λ (r : SizeRow). r.peaks) is) ∙ peaks) (sym (ap (λ (r : SizeRow). r.undecided) is) ∙ undecided)
+    holds.true_boxes)
+
+-- so of its row
+pub row_is_safe : (scale : ℕ) (c : Sizing) (q : ℤ) → IsScanSpec c.spec → IsWhole c.network → CanAssemble c.network c.network c.driven c.ordering → pos 1 ≤ℤ q
+    → (size_row scale c q).peaks ≡ 0 → (size_row scale c q).undecided ≡ 0 → IsSafe c q
+row_is_safe scale c q s whole ready above peaks undecided = safe_size scale c q (size_row scale c q) s whole ready above (sym (row_of_size scale c q)) peaks undecided
+
+pub row_size : (scale : ℕ) (c : Sizing) (q : ℤ) → (size_row scale c q).size ≡ q
+unfolding size_row
+row_size scale c q = refl
 
 -- ---- what an answer shows
 -- the size is the one at its place, above 0, and the row has the counts of its boxes

@@ -4,13 +4,15 @@ use Rattle.network_theory.specs.Extra.{with_shunt}
 use Rattle.network_theory.specs.Network.{Network, IsWhole}
 use Rattle.element_parts.specs.PerUnit.{susceptance_of_rating}
 use Rattle.admittance_box.specs.HeldMatrix.{CanAssemble}
-use Rattle.band_subdivision.specs.Boxes.{BoxTest, boxes_of}
+use Rattle.band_subdivision.specs.Boxes.{BoxTest}
 use Rattle.band_subdivision.specs.PairTest.{pair_test}
 use Rattle.band_subdivision.specs.Scan.{Scanning}
-use Rattle.band_subdivision.specs.ScanSpec.{IsScanSpec, asked_of, threshold_of, widths_of}
-use Rattle.band_subdivision.specs.Truth.{scanned_by, IsClearedBox}
+use Rattle.band_subdivision.specs.ScanSpec.{IsScanSpec, asked_of}
+use Rattle.band_subdivision.specs.Truth.{IsClearedBox}
 use Rattle.band_subdivision.specs.declared.scan_spec.ScanSpec.{ScanSpec}
 use Rattle.scan_report.specs.declared.boxes.BoxRow.{BoxRow}
+use Rattle.study_scans.specs.Claim.{looked_over}
+use Rattle.study_scans.specs.Scan.{boxes_by}
 use Rattle.study_variants.specs.Kinds.{row_of_boxes}
 use Rattle.study_variants.specs.declared.size_row.SizeRow.{SizeRow}
 
@@ -33,7 +35,7 @@ size_test scale c q = pair_test scale (asked_of c.spec) c.network c.network c.or
 
 -- and the boxes of its band
 abbrev pub size_boxes : ℕ → Sizing → ℤ → List BoxRow
-size_boxes scale c q = boxes_of (size_test scale c q) (widths_of c.spec) c.spec.from c.spec.to
+size_boxes scale c q = boxes_by (size_test scale c q) c.spec
 
 -- a size with the counts of these boxes
 unfoldable pub size_row : ℕ → Sizing → ℤ → SizeRow
@@ -45,7 +47,7 @@ size_network c q = with_shunt c.network c.driven (susceptance_of_rating q c.spec
 
 -- at every order of the band the impedance of the size's network exists and is within the threshold
 abbrev pub IsSafe : Sizing → ℤ → Type 0
-IsSafe c q = IsClearedBox (scanned_by (threshold_of c.spec) c.spec.kv c.spec.mva (size_network c q) c.driven) c.spec.from c.spec.to
+IsSafe c q = IsClearedBox (looked_over c.spec (size_network c q) c.driven) c.spec.from c.spec.to
 
 -- the candidates of this network, driven node and spec, and of these sizes, of which none has been given
 pub record AreCandidatesOf (network : Network) (driven : ℕ) (spec : ScanSpec) (sizes : List ℤ) (c : Sizing) : Type 0 where

@@ -1,0 +1,5 @@
+pub mod Tried
+pub mod Scanned
+pub mod Listed
+pub mod Texts
+pub mod Claims
