@@ -1,0 +1,9 @@
+pub mod Values
+pub mod Kept
+pub mod OneByOne
+pub mod Pairs
+pub mod Naturals
+pub mod Lawful
+pub mod Within
+pub mod Apart
+pub mod Hold
