@@ -1,0 +1,9 @@
+pub mod Counted
+pub mod Walked
+pub mod Lives
+pub mod Named
+pub mod Rooms
+pub mod Columns
+pub mod Rows
+pub mod Texts
+pub mod Claims
