@@ -7,10 +7,16 @@ use Rattle.study_model.specs.declared.records.Study.{Study}
 use Rattle.spectrum_reader.specs.declared.injection.Injection.{Injection}
 use Rattle.spectrum_reader.specs.declared.level.Level.{Level}
 use Rattle.drill_study.specs.Drill.{drill_of}
-use Rattle.study_scans.specs.Report.{report_status}
+use Rattle.band_subdivision.specs.Boxes.{BoxTest}
+use Rattle.study_model.specs.declared.records.ScanItem.{ScanItem}
+use Rattle.study_scans.specs.Report.{report_status, status_by}
+use Rattle.study_scans.specs.Scan.{test_of}
+use Rattle.candidates_report.specs.Report.{candidates_status}
+use Rattle.outages_report.specs.Report.{outages_status}
+use Rattle.tolerance_scan.specs.Report.{tolerance_test}
 use Rattle.limits_report.specs.Report.{limits_status}
-use Rattle.harmscan_core.specs.Words.{Reading, scan, limits, drill, verify, names_in}
-use Rattle.harmscan_core.specs.Subject.{Subject, scanned, distorted, drilled, verified, text_for, status_for, ReadsFor}
+use Rattle.harmscan_core.specs.Words.{Reading, scan, candidates, tolerance, outages, limits, drill, verify, names_in}
+use Rattle.harmscan_core.specs.Subject.{Subject, scanned, with_banks, within_tolerances, without_elements, distorted, drilled, verified, text_for, status_for, ReadsFor}
 use Rattle.harmscan_core.specs.Outcome.{Reports, IsReported, Happens, ends, reports, HappensFor, status_at, Asks, AsksInOrder, IsWritten, IsRefusal, WritesReport, StopsWithin}
 use Rattle.harmscan_core.specs.declared.outcome.Outcome.{Outcome}
 use Rattle.harmscan_core.specs.declared.outcome.Outcome.TheVariants.{WordsRefused, ReadFailed, TooLarge, Refused, WriteFailed, NoMemory, Written}
@@ -30,9 +36,25 @@ chosen_status true u = record { one = λ e. omega arith; two = λ e. omega arith
 chosen_status false true = record { one = λ e. omega arith; two = λ e. omega arith; five = λ e. omega arith; six = λ e. omega arith; seven = λ e. omega arith }
 chosen_status false false = record { one = λ e. omega arith; two = λ e. omega arith; five = λ e. omega arith; six = λ e. omega arith; seven = λ e. omega arith }
 
+tests_status : (tests : ScanItem → BoxTest) (study : Study) → IsReportStatus (status_by tests study)
+unfolding status_by
+tests_status tests study = chosen_status _ _
+
 study_status : (study : Study) → IsReportStatus (report_status study)
-unfolding report_status
-study_status study = chosen_status _ _
+study_status study = tests_status (test_of study) study
+
+candidates_chosen : (a b : Bool) → IsReportStatus (cond a 0 (cond b 3 4))
+candidates_chosen true b = chosen_status false false
+candidates_chosen false true = chosen_status true false
+candidates_chosen false false = chosen_status false true
+
+banks_status : (study : Study) → IsReportStatus (candidates_status study)
+unfolding candidates_status
+banks_status study = candidates_chosen _ _
+
+elements_status : (study : Study) → IsReportStatus (outages_status study)
+unfolding outages_status
+elements_status study = chosen_status _ _
 
 distorted_status : (study : Study) (rows : List Injection) (levels : List Level) → IsReportStatus (limits_status study rows levels)
 unfolding limits_status
@@ -40,6 +62,9 @@ distorted_status study rows levels = chosen_status _ _
 
 reported : (subject : Subject) → IsReportStatus (status_for subject)
 reported (scanned study) = study_status study
+reported (with_banks study) = banks_status study
+reported (within_tolerances study) = tests_status (tolerance_test study) study
+reported (without_elements study) = elements_status study
 reported (distorted study rows levels) = distorted_status study rows levels
 reported (drilled number) = study_status (drill_of number)
 reported (verified study rows) = record { one = λ e. omega arith; two = λ e. omega arith; five = λ e. omega arith; six = λ e. omega arith; seven = λ e. omega arith }
@@ -161,6 +186,9 @@ drill_stays number s t out out' o (reports subject h k) = h.stays
 pub asks_files : (w : Option Reading) (s t : ShelfState) (out out' : SinkState) (o : Outcome) → HappensFor w s t out out' o → Asks w s t
 asks_files None s t out out' o h = h.1
 asks_files (Some (scan study)) s t out out' o h = names_in_order (scan study) s t out out' o h
+asks_files (Some (candidates study)) s t out out' o h = names_in_order (candidates study) s t out out' o h
+asks_files (Some (tolerance study)) s t out out' o h = names_in_order (tolerance study) s t out out' o h
+asks_files (Some (outages study)) s t out out' o h = names_in_order (outages study) s t out out' o h
 asks_files (Some (limits study spectrum levels)) s t out out' o h = names_in_order (limits study spectrum levels) s t out out' o h
 asks_files (Some (drill number)) s t out out' o h = drill_stays number s t out out' o h
 asks_files (Some (verify study report)) s t out out' o h = names_in_order (verify study report) s t out out' o h

@@ -24,9 +24,9 @@ use Rattle.study_networks.proofs.Refusals.{no_networks_refusal}
 use Rattle.drill_study.specs.Drill.{drill_scan, drill_of}
 use Rattle.drill_study.proofs.Lawful.{drill_lawful}
 use Rattle.drill_study.proofs.Live.{drill_live}
-use Rattle.study_scans.specs.Scan.{boxes_in}
+use Rattle.study_scans.specs.Scan.{test_of, boxes_in}
 use Rattle.study_scans.specs.Fold.{most_boxes, found_in, nothing_found, status_of, counted_status}
-use Rattle.study_scans.specs.Report.{summary_of, report_status}
+use Rattle.study_scans.specs.Report.{summary_of, report_status, status_by}
 use Rattle.harmscan_core.specs.Drills.{drill_text}
 use Rattle.harmscan_core.specs.Texts.{summary_text, end_text, drill_head_text, counts_text, counted_text}
 use Rattle.study_scans.specs.Claim.{HoldsOfStudy}
@@ -78,8 +78,8 @@ not_accepted number study (Written s) out same r = absurd r
 
 -- ---- a report of one scan
 status_is : (study : Study) (scan : ScanItem) → study.scans ≡ scan ∷ [] → counted_status (boxes_in study scan) ≡ report_status study
-unfolding counted_status report_status
-status_is study scan one = ap (λ (l : List ScanItem). status_of (found_in study nothing_found l)) (sym one) ∙ ap status_of (found_is study)
+unfolding counted_status status_by
+status_is study scan one = ap (λ (l : List ScanItem). status_of (found_in (test_of study) study nothing_found l)) (sym one) ∙ ap status_of (found_is (test_of study) study)
 
 drill_status : (number : ℕ) → counted_status (boxes_in (drill_of number) drill_scan) ≡ report_status (drill_of number)
 drill_status number = status_is (drill_of number) drill_scan (drill_scans number)
@@ -141,7 +141,7 @@ pub have_texts : (number : ℕ) (boxes : List BoxRow) → boxes ≡ boxes_in (dr
 have_texts number boxes same =
     subst HaveTexts (sym same) (record {
       texts = scan_texts (drill_of number) drill_scan (drill_lawful number) (scan_is_lawful number);
-      few = scan_few (drill_of number) drill_scan (drill_lawful number) (scan_is_lawful number);
+      few = scan_few (test_of (drill_of number)) (drill_of number) drill_scan (drill_lawful number) (scan_is_lawful number);
     })
 
 -- ---- its report

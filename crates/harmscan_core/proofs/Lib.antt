@@ -9,6 +9,9 @@ pub mod Causes
 pub mod Complete
 pub mod WholeReport
 pub mod Written
+pub mod PutRows
+pub mod VariantReports
+pub mod Tolerances
 pub mod Plans
 pub mod Drills
 pub mod Distorted

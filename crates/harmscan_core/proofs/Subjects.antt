@@ -4,9 +4,9 @@ use Rattle.study_model.specs.declared.records.Study.{Study}
 use Rattle.spectrum_reader.specs.declared.injection.Injection.{Injection}
 use Rattle.spectrum_reader.specs.declared.level.Level.{Level}
 use Rattle.harmscan_core.specs.Accepted.{IsAccepted, RefusesStudy, IsSpectrum, RefusesSpectrum, AreLevels, RefusesLevels, IsRightReport, RefusesReport}
-use Rattle.harmscan_core.specs.Files.{Reads, TellsFile}
-use Rattle.harmscan_core.specs.Subject.{Subject, scanned, distorted, drilled, verified, StudyBy, SpectrumBy, LevelsBy, ReportBy, SubjectBy, ReadsFor}
-use Rattle.harmscan_core.specs.Words.{Reading, scan, limits, drill, verify, names_in}
+use Rattle.harmscan_core.specs.Files.{Reads, TellsFile, Gives, Then}
+use Rattle.harmscan_core.specs.Subject.{Subject, scanned, with_banks, within_tolerances, without_elements, distorted, drilled, verified, StudyBy, SpectrumBy, LevelsBy, ReportBy, SubjectBy, ReadsFor}
+use Rattle.harmscan_core.specs.Words.{Reading, scan, candidates, tolerance, outages, limits, drill, verify, names_in}
 use Rattle.harmscan_core.specs.declared.files.File.TheVariants as file
 use Rattle.harmscan_core.proofs.Accepted.{study_decided}
 use Rattle.harmscan_core.proofs.Chains.{IsReading, file_is, gives_is, then_is, IsForetold, file_foretold, gives_foretold, then_foretold}
@@ -38,9 +38,16 @@ limits_is study spectrum levels =
     then_is (List Injection) Subject (spectrum ∷ []) (name_of levels ++ []) _ _ (spectrum_is s spectrum) (λ rows.
     then_is (List Level) Subject (name_of levels) [] _ _ (levels_are s levels) (λ l. gives_is Subject (distorted s rows l))))
 
+-- one study, which is all that is read
+one_study_is : (name : List ℕ) (subject : Study → Subject) → IsReading (name ∷ []) (Then (StudyBy Reads name) (λ s. Gives (subject s)))
+one_study_is name subject = then_is Study Subject (name ∷ []) [] _ _ (study_is name) (λ s. gives_is Subject (subject s))
+
 -- what the words name is read in their order
 pub reads_in_order : (r : Reading) → IsReading (names_in r) (ReadsFor r)
-reads_in_order (scan study) = then_is Study Subject (study ∷ []) [] _ _ (study_is study) (λ s. gives_is Subject (scanned s))
+reads_in_order (scan study) = one_study_is study scanned
+reads_in_order (candidates study) = one_study_is study with_banks
+reads_in_order (tolerance study) = one_study_is study within_tolerances
+reads_in_order (outages study) = one_study_is study without_elements
 reads_in_order (limits study spectrum None) = limits_is study spectrum None
 reads_in_order (limits study spectrum (Some levels)) = limits_is study spectrum (Some levels)
 reads_in_order (drill number) = gives_is Subject (drilled number)
@@ -61,8 +68,14 @@ levels_told study (Some name) = file_foretold (List Level) file.Levels (AreLevel
 report_told : (study : Study) (name : List ℕ) → IsForetold (ReportBy TellsFile study name) (ReportBy Reads study name)
 report_told study name = file_foretold (List Row) file.Report (IsRightReport study) (RefusesReport study) name (report_decided study)
 
+one_study_told : (name : List ℕ) (subject : Study → Subject) → IsForetold (Then (StudyBy TellsFile name) (λ s. Gives (subject s))) (Then (StudyBy Reads name) (λ s. Gives (subject s)))
+one_study_told name subject = then_foretold Study Subject (name ∷ []) _ _ _ _ (study_is name) (study_told name) (λ s. gives_foretold Subject (subject s))
+
 pub reads_as_told : (r : Reading) → IsForetold (SubjectBy TellsFile r) (ReadsFor r)
-reads_as_told (scan study) = then_foretold Study Subject (study ∷ []) _ _ _ _ (study_is study) (study_told study) (λ s. gives_foretold Subject (scanned s))
+reads_as_told (scan study) = one_study_told study scanned
+reads_as_told (candidates study) = one_study_told study with_banks
+reads_as_told (tolerance study) = one_study_told study within_tolerances
+reads_as_told (outages study) = one_study_told study without_elements
 reads_as_told (limits study spectrum levels) =
     then_foretold Study Subject (study ∷ []) _ _ _ _ (study_is study) (study_told study) (λ s.
     then_foretold (List Injection) Subject (spectrum ∷ []) _ _ _ _ (spectrum_is s spectrum) (spectrum_told s spectrum) (λ rows.

@@ -1,4 +1,6 @@
 pub mod Drills
+pub mod Tolerances
+pub mod Plans
 pub mod Texts
 pub mod Accepted
 pub mod Words

@@ -12,7 +12,7 @@ use Rattle.study_networks.specs.Networks.{IsNetworksRefusal}
 use Rattle.harmscan_core.specs.Accepted.{RefusedFor}
 use Rattle.harmscan_core.specs.Lines.{line_at}
 use Rattle.harmscan_core.specs.Subject.{Subject, text_for, status_for, Claims, ReadsFor}
-use Rattle.harmscan_core.specs.Words.{Reading, scan, limits, drill, verify, names_in}
+use Rattle.harmscan_core.specs.Words.{Reading, scan, candidates, tolerance, outages, limits, drill, verify, names_in}
 use Rattle.harmscan_core.specs.declared.files.File.{File}
 use Rattle.harmscan_core.specs.declared.files.Refusal.{Refusal}
 use Rattle.harmscan_core.specs.declared.files.Refusal.TheVariants as refusal
@@ -107,6 +107,9 @@ abbrev pub Asks : Option Reading → ShelfState → ShelfState → Type 0
 Asks None before now = now ≡ before
 Asks (Some (drill number)) before now = now ≡ before
 Asks (Some (scan study)) before now = AsksInOrder (names_in (scan study)) before now
+Asks (Some (candidates study)) before now = AsksInOrder (names_in (candidates study)) before now
+Asks (Some (tolerance study)) before now = AsksInOrder (names_in (tolerance study)) before now
+Asks (Some (outages study)) before now = AsksInOrder (names_in (outages study)) before now
 Asks (Some (limits study spectrum levels)) before now = AsksInOrder (names_in (limits study spectrum levels)) before now
 Asks (Some (verify study report)) before now = AsksInOrder (names_in (verify study report)) before now
 

@@ -16,17 +16,28 @@ use Rattle.report_verify.specs.FirstFault.{is_scan_row, is_box_row, counted_by}
 use Rattle.harmscan_core.specs.Accepted.{IsAccepted, RefusesStudy, IsSpectrum, RefusesSpectrum, AreLevels, RefusesLevels, IsRightReport, RefusesReport}
 use Rattle.study_scans.specs.Claim.{HoldsOfStudy}
 use Rattle.harmscan_core.specs.Files.{Reads, TellsFile, Gives, Then}
-use Rattle.study_scans.specs.Report.{report_text, report_status}
+use Rattle.study_scans.specs.Report.{report_text, report_status, status_by}
+use Rattle.candidates_report.specs.Claim.{HoldsOfCandidates}
+use Rattle.candidates_report.specs.Report.{candidates_rows_of, candidates_status}
+use Rattle.outages_report.specs.Claim.{HoldsOfOutages}
+use Rattle.outages_report.specs.Report.{outages_rows_of, outages_status}
+use Rattle.tolerance_scan.specs.Claim.{HoldsOfTolerances}
+use Rattle.tolerance_scan.specs.Report.{tolerance_test}
 use Rattle.harmscan_core.specs.Drills.{drill_text}
-use Rattle.harmscan_core.specs.Words.{Reading, scan, limits, drill, verify}
+use Rattle.harmscan_core.specs.Tolerances.{tolerance_text}
+use Rattle.harmscan_core.specs.Words.{Reading, scan, candidates, tolerance, outages, limits, drill, verify}
 use Rattle.harmscan_core.specs.declared.files.File.{File}
 use Rattle.harmscan_core.specs.declared.files.File.TheVariants as file
 use Rattle.harmscan_core.specs.declared.files.Refusal.{Refusal}
 use Rattle.harmscan_core.specs.declared.outcome.Outcome.{Outcome}
 
--- the scans of a study, the distortion that a spectrum causes in it, judged by planning levels too, the scan of a drill, or the rows of a report that is right of a study
+-- The scans of a study, with candidate banks, for all values within tolerances or without listed elements, the distortion that a spectrum causes in it, judged
+-- by planning levels too, the scan of a drill, or the rows of a report that is right of a study.
 pub data Subject : Type 0 where
   scanned : Study → Subject
+  with_banks : Study → Subject
+  within_tolerances : Study → Subject
+  without_elements : Study → Subject
   distorted : Study → List Injection → List Level → Subject
   drilled : ℕ → Subject
   verified : Study → List Row → Subject
@@ -34,6 +45,9 @@ pub data Subject : Type 0 where
 -- the bytes of its report
 abbrev pub text_for : Subject → List ℕ
 text_for (scanned study) = report_text study
+text_for (with_banks study) = text_of (candidates_rows_of study)
+text_for (within_tolerances study) = tolerance_text study
+text_for (without_elements study) = text_of (outages_rows_of study)
 text_for (distorted study rows levels) = text_of (limits_rows_of study rows levels)
 text_for (drilled number) = drill_text number
 text_for (verified study rows) = row_text (Verified (counted_by is_scan_row rows) (counted_by is_box_row rows))
@@ -41,6 +55,9 @@ text_for (verified study rows) = row_text (Verified (counted_by is_scan_row rows
 -- the status of its report
 abbrev pub status_for : Subject → ℕ
 status_for (scanned study) = report_status study
+status_for (with_banks study) = candidates_status study
+status_for (within_tolerances study) = status_by (tolerance_test study) study
+status_for (without_elements study) = outages_status study
 status_for (distorted study rows levels) = limits_status study rows levels
 status_for (drilled number) = report_status (drill_of number)
 status_for (verified study rows) = 0
@@ -48,6 +65,9 @@ status_for (verified study rows) = 0
 -- what its report claims
 abbrev pub Claims : Subject → Type 0
 Claims (scanned study) = HoldsOfStudy study
+Claims (with_banks study) = HoldsOfCandidates study
+Claims (within_tolerances study) = HoldsOfTolerances study
+Claims (without_elements study) = HoldsOfOutages study
 Claims (distorted study rows levels) = HoldsOfLimits study rows levels
 Claims (drilled number) = HoldsOfStudy (drill_of number)
 Claims (verified study rows) = HoldsOfReport study rows
@@ -76,6 +96,9 @@ ReportBy read study name = read (List Row) file.Report (IsRightReport study) (Re
 -- What the words name, each file read in this way, one after another.
 abbrev pub SubjectBy : FileReading → Reading → ShelfState → ShelfState → Result Subject Outcome → Type 0
 SubjectBy read (scan study) = Then (StudyBy read study) (λ s. Gives (scanned s))
+SubjectBy read (candidates study) = Then (StudyBy read study) (λ s. Gives (with_banks s))
+SubjectBy read (tolerance study) = Then (StudyBy read study) (λ s. Gives (within_tolerances s))
+SubjectBy read (outages study) = Then (StudyBy read study) (λ s. Gives (without_elements s))
 SubjectBy read (limits study spectrum levels) =
     Then (StudyBy read study) (λ s. Then (SpectrumBy read s spectrum) (λ rows. Then (LevelsBy read s levels) (λ l. Gives (distorted s rows l))))
 SubjectBy read (drill number) = Gives (drilled number)

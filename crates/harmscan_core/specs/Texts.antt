@@ -1,7 +1,7 @@
 -- The texts of the parts of a report, which stay closed where they are put together.
-use Rattle.std.specs.Prelude.{ℕ, ◌+◌, ℤ, List, [], ◌∷◌, ◌++◌, Option}
+use Rattle.std.specs.Prelude.{ℕ, ◌+◌, ℤ, List, [], ◌∷◌, ◌++◌, length, Option}
 use Rattle.scan_report.specs.Rows.{row_text}
-use Rattle.scan_report.specs.declared.rows.Row.TheVariants.{Drill, End}
+use Rattle.scan_report.specs.declared.rows.Row.TheVariants.{Drill, Tolerance, End}
 use Rattle.scan_report.specs.declared.boxes.BoxRow.{BoxRow}
 use Rattle.study_model.specs.declared.records.ScanItem.{ScanItem}
 use Rattle.study_model.specs.declared.records.Study.{Study}
@@ -11,7 +11,8 @@ use Rattle.study_scans.specs.declared.region.Region.{Region}
 use Rattle.scan_report.specs.Reading.{text_of}
 use Rattle.study_scans.specs.Report.{row_of, head_row}
 use Rattle.study_scans.specs.Fold.{open_rows, ended_rows, folded_rows, folded_summary, tallied, no_tally, counted_status}
-use Rattle.study_scans.specs.Scan.{boxes_in}
+use Rattle.study_scans.specs.declared.plan.PlannedScan.{PlannedScan}
+use Rattle.harmscan_core.specs.Plans.{plan_status}
 
 -- a scan's first row
 unfoldable pub head_text : Study → ScanItem → List ℕ
@@ -45,18 +46,26 @@ end_text status = row_text (End status)
 unfoldable pub body_text : ℤ → ScanItem → List BoxRow → List ℕ
 body_text hz scan boxes = boxes_text hz no_tally boxes ++ summary_text scan (tallied no_tally boxes)
 
--- all rows of a scan
-unfoldable pub scan_text : Study → ScanItem → List ℕ
-scan_text study scan = head_text study scan ++ body_text study.hz scan (boxes_in study scan)
+-- all rows of a scan that has these boxes
+unfoldable pub scan_text : Study → ScanItem → List BoxRow → List ℕ
+scan_text study scan boxes = head_text study scan ++ body_text study.hz scan boxes
 
--- all rows of scans in order
-abbrev pub scans_text : Study → List ScanItem → List ℕ
-scans_text study [] = []
-scans_text study (scan ∷ scans) = scan_text study scan ++ scans_text study scans
+-- all rows of planned scans in order
+abbrev pub plan_text : {E : Type 0} → Study → List (PlannedScan E) → List ℕ
+plan_text study [] = []
+plan_text study (planned ∷ plan) = scan_text study planned.scan planned.walk.left ++ plan_text study plan
 
--- all rows of a study's scans, and the last row of a report
-unfoldable pub whole_text : Study → ℕ → List ℕ
-whole_text study status = scans_text study study.scans ++ end_text status
+-- all rows of a plan, and the last row of a report
+unfoldable pub whole_text : {E : Type 0} → Study → List (PlannedScan E) → List ℕ
+whole_text study plan = plan_text study plan ++ end_text (plan_status plan)
+
+-- the first row of a report within tolerances
+unfoldable pub entries_text : ℕ → List ℕ
+entries_text entries = row_text (Tolerance entries)
+
+-- all rows of such a report
+unfoldable pub tolerant_text : {E : Type 0} → Study → List (PlannedScan E) → List ℕ
+tolerant_text study plan = entries_text (length study.tolerances) ++ whole_text study plan
 
 -- the first row of a drill
 unfoldable pub drill_head_text : ℕ → ℕ → List ℕ

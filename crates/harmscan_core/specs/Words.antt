@@ -7,9 +7,13 @@ use Rattle.std.specs.Str.Parse.{digits_value}
 use Rattle.harmscan_core.specs.declared.words.Command.{Command}
 use Rattle.harmscan_core.specs.declared.words.Command.TheVariants as command
 
--- the scan of a study's file, the distortion that a spectrum's file causes in it, beside a levels file or none, the drill of a number, or whether a report's file is right of a study's
+-- The scan of a study's file, with its candidate banks, within its tolerances or without each of its outages, the distortion that a spectrum's file causes in
+-- it, beside a levels file or none, the drill of a number, or whether a report's file is right of a study's.
 pub data Reading : Type 0 where
   scan : List ℕ → Reading
+  candidates : List ℕ → Reading
+  tolerance : List ℕ → Reading
+  outages : List ℕ → Reading
   limits : List ℕ → List ℕ → Option (List ℕ) → Reading
   drill : ℕ → Reading
   verify : List ℕ → List ℕ → Reading
@@ -17,6 +21,9 @@ pub data Reading : Type 0 where
 -- the same, where the names of the files are lent
 abbrev pub seen : Command → Reading
 seen (command.Scan study) = scan study.now
+seen (command.Candidates study) = candidates study.now
+seen (command.Tolerance study) = tolerance study.now
+seen (command.Outages study) = outages study.now
 seen (command.Limits study spectrum levels) = limits study.now spectrum.now (option_map (λ name. name.now) levels)
 seen (command.Drill number) = drill number
 seen (command.Verify study report) = verify study.now report.now
@@ -24,6 +31,9 @@ seen (command.Verify study report) = verify study.now report.now
 -- the names of the files, in the order of the words
 abbrev pub names_in : Reading → List (List ℕ)
 names_in (scan study) = study ∷ []
+names_in (candidates study) = study ∷ []
+names_in (tolerance study) = study ∷ []
+names_in (outages study) = study ∷ []
 names_in (limits study spectrum None) = study ∷ spectrum ∷ []
 names_in (limits study spectrum (Some levels)) = study ∷ spectrum ∷ levels ∷ []
 names_in (drill number) = []
@@ -48,12 +58,19 @@ is_number_word word = has_no_leading_zero word && nat_le (length word) 6 && list
 unfoldable pub number_in : List ℕ → Option ℕ
 number_in word = if is_number_word word then Some (digits_value 10 word) else None
 
--- what two words ask for, of the forms `scan STUDY` and `drill N`
+-- what a command with the name of one file asks for, of the forms `scan STUDY`, `candidates STUDY`, `tolerance STUDY` and `outages STUDY`
+abbrev pub reading_of_one : List ℕ → List ℕ → Option Reading
+reading_of_one first study =
+    if bytes_eq first (codes "scan") then Some (scan study)
+    else (if bytes_eq first (codes "candidates") then Some (candidates study)
+    else (if bytes_eq first (codes "tolerance") then Some (tolerance study)
+    else (if bytes_eq first (codes "outages") then Some (outages study) else None)))
+
+-- what two words ask for, of one of these forms or of the form `drill N`
 abbrev pub reading_of : List ℕ → List ℕ → Option Reading
 reading_of first word =
-    if bytes_eq first (codes "scan")
-    then (if is_file_word word then Some (scan word) else None)
-    else (if bytes_eq first (codes "drill") then option_map drill (number_in word) else None)
+    if bytes_eq first (codes "drill") then option_map drill (number_in word)
+    else (if is_file_word word then reading_of_one first word else None)
 
 -- what three words ask for, of the forms `limits STUDY SPECTRUM` and `verify STUDY REPORT`
 abbrev pub reading_of_two : List ℕ → List ℕ → List ℕ → Option Reading

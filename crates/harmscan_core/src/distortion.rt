@@ -1,37 +1,16 @@
 // The report of `limits`: all its rows are formed before the first of them is put.
-ghost use Rattle.std.specs.List.{AllByRecursion};
-ghost use Rattle.harm_io.specs.Sinks.{Writes};
-ghost use Rattle.scan_report.specs.Reading.{text_of};
-ghost use Rattle.scan_report.specs.Rows.{HaveText, fields_of};
 ghost use Rattle.study_model.specs.Lawful.{IsLawful};
 ghost use Rattle.spectrum_reader.specs.Lawful.{IsLawfulSpectrum};
 ghost use Rattle.harmscan_core.specs.Inputs.{subject_in};
 ghost use Rattle.harmscan_core.specs.Outcome.{Reports};
 ghost use Rattle.study_networks.specs.Networks.{AreNetworksOf};
 
+use crate::formed::put_rows;
 use crate::inputs::Inputs;
 use crate::outcome::{Outcome, after_put};
-use crate::report::put_line;
-use harm_io::{PutFault, Sink};
+use harm_io::Sink;
 use limits_report::limits_rows;
-use scan_report::{LineBuf, Row, write_row};
 use std::alloc::Global;
-
-/// Puts rows, a line a put.
-fn put_rows<O: Sink>(rows: &[Row], out: &mut O) -> Result<(), PutFault>
-    requires { AllByRecursion (λ row. HaveText (fields_of row)) rows.now }
-    ensures { Writes (text_of rows.now) (O.state out.old) (O.state out.new) result }
-{
-    let mut line = LineBuf::new();
-    for row in rows {
-        write_row(row, &mut line);
-        match put_line(out, &line) {
-            Ok(()) => (),
-            Err(fault) => return Err(fault),
-        }
-    }
-    Ok(())
-}
 
 /// The report on the distortion of a spectrum in its study.
 #[tactic(auto, using(crate::proofs::Distorted::distortion_written, crate::proofs::Distorted::distortion_not_taken))]

@@ -4,12 +4,15 @@
 mod distortion;
 mod drill;
 mod files;
+mod formed;
 mod inputs;
 mod limits;
 mod lines;
 mod outcome;
 mod perform;
 mod report;
+mod scans;
+mod variants;
 mod verified;
 mod words;
 

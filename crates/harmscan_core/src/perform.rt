@@ -3,10 +3,8 @@ ghost use Rattle.std.specs.Prelude.{◌≡◌, ◌≢◌, ◌↔◌, ◌<◌, �
 ghost use Rattle.std.specs.IoError.{error_kind};
 ghost use Rattle.harm_io.specs.Causes.{Rose};
 ghost use Rattle.harm_io.specs.Memory.{names_of};
-ghost use Rattle.study_model.specs.Lawful.{IsLawful};
-ghost use Rattle.study_networks.specs.Networks.{AreNetworksOf};
-ghost use Rattle.harmscan_core.specs.Subject.{Subject, TellsFor, scanned, drilled};
-ghost use Rattle.harmscan_core.specs.Words.{Reading, reading, scan, limits, drill, verify};
+ghost use Rattle.harmscan_core.specs.Subject.{Subject, TellsFor, drilled};
+ghost use Rattle.harmscan_core.specs.Words.{Reading, reading, scan, candidates, tolerance, outages, limits, drill, verify};
 ghost use Rattle.harmscan_core.specs.Outcome.{Reports, Happens, HappensFor, Runs, IsComplete, IsWritten, WritesReport, Asks, IsRefusal, StopsWithin, RefusesFor, EndsAtOnce};
 
 use crate::distortion::report_limits;
@@ -14,53 +12,15 @@ use crate::drill::report_drill;
 use crate::inputs::{accepted_networks, checked_from, inputs_from, study_from};
 use crate::lines::say;
 use crate::outcome::{Outcome, after_put, after_words, status};
-use crate::report::put_report;
+use crate::scans::{report_scans, report_tolerance};
+use crate::variants::{report_candidates, report_outages};
 use crate::verified::report_verified;
 use crate::words::{Command, reading};
-use complex_interval::{Enclosure, Span};
 use drill_study::drill_study;
 use harm_io::{Shelf, Sink};
 use std::alloc::Global;
 use std::io;
 use std::io::ErrorKind;
-use study_model::Study;
-use study_networks::StudyNetworks;
-use study_scans::plan_of;
-
-/// The report of a study at its scale: all walks are made before its first line is put.
-#[tactic(auto, using(crate::proofs::Written::not_reported))]
-fn report_at<E: Enclosure, O: Sink>(
-    alloc: Global,
-    study: &Study,
-    networks: &StudyNetworks,
-    out: &mut O,
-) -> Outcome
-    requires study { IsLawful study.now }
-    requires networks { AreNetworksOf study.now networks.now }
-    requires scale { E.SCALE ≡ study.now.scale }
-    ensures { Reports (scanned study.now) (O.state out.old) (O.state out.new) result }
-{
-    match plan_of::<E>(alloc, study, networks) {
-        Err(_) => Outcome::NoMemory,
-        Ok(mut plan) => match put_report(study, &mut plan, out) {
-            Ok(status) => Outcome::Written(status),
-            Err(fault) => after_put(fault),
-        },
-    }
-}
-
-/// The report of a study.
-fn report<O: Sink>(alloc: Global, study: &Study, networks: &StudyNetworks, out: &mut O) -> Outcome
-    requires study { IsLawful study.now }
-    requires networks { AreNetworksOf study.now networks.now }
-    ensures { Reports (scanned study.now) (O.state out.old) (O.state out.new) result }
-{
-    if study.scale == 40 {
-        report_at::<Span<40>, O>(alloc, study, networks, out)
-    } else {
-        report_at::<Span<48>, O>(alloc, study, networks, out)
-    }
-}
 
 /// The scan of a file.
 fn scan<F: Shelf, O: Sink>(alloc: Global, name: &str, shelf: &mut F, out: &mut O) -> Outcome
@@ -68,7 +28,37 @@ fn scan<F: Shelf, O: Sink>(alloc: Global, name: &str, shelf: &mut F, out: &mut O
 {
     match study_from(alloc, name, shelf) {
         Err(outcome) => outcome,
-        Ok(accepted) => report(alloc, &accepted.study, &accepted.networks, out),
+        Ok(accepted) => report_scans(alloc, &accepted.study, &accepted.networks, out),
+    }
+}
+
+/// Which size of the candidate banks of a file is safe.
+fn candidates<F: Shelf, O: Sink>(alloc: Global, name: &str, shelf: &mut F, out: &mut O) -> Outcome
+    ensures { Happens (candidates name.now) (F.state shelf.old) (F.state shelf.new) (O.state out.old) (O.state out.new) result }
+{
+    match study_from(alloc, name, shelf) {
+        Err(outcome) => outcome,
+        Ok(accepted) => report_candidates(alloc, &accepted.study, &accepted.networks, out),
+    }
+}
+
+/// The scan of a file for all values within its tolerances.
+fn tolerance<F: Shelf, O: Sink>(alloc: Global, name: &str, shelf: &mut F, out: &mut O) -> Outcome
+    ensures { Happens (tolerance name.now) (F.state shelf.old) (F.state shelf.new) (O.state out.old) (O.state out.new) result }
+{
+    match study_from(alloc, name, shelf) {
+        Err(outcome) => outcome,
+        Ok(accepted) => report_tolerance(alloc, &accepted.study, &accepted.networks, out),
+    }
+}
+
+/// The scan of a file without each of its outages in turn.
+fn outages<F: Shelf, O: Sink>(alloc: Global, name: &str, shelf: &mut F, out: &mut O) -> Outcome
+    ensures { Happens (outages name.now) (F.state shelf.old) (F.state shelf.new) (O.state out.old) (O.state out.new) result }
+{
+    match study_from(alloc, name, shelf) {
+        Err(outcome) => outcome,
+        Ok(accepted) => report_outages(alloc, &accepted.study, &accepted.networks, out),
     }
 }
 
@@ -130,6 +120,9 @@ fn perform<F: Shelf, O: Sink>(
 {
     match reading(words) {
         Some(Command::Scan(name)) => scan(alloc, name, shelf, out),
+        Some(Command::Candidates(name)) => candidates(alloc, name, shelf, out),
+        Some(Command::Tolerance(name)) => tolerance(alloc, name, shelf, out),
+        Some(Command::Outages(name)) => outages(alloc, name, shelf, out),
         Some(Command::Limits(study, spectrum, levels)) => {
             limits(alloc, study, spectrum, levels, shelf, out)
         }
@@ -140,8 +133,8 @@ fn perform<F: Shelf, O: Sink>(
 }
 
 /// Runs the words of the command line, and answers the program's status. `words` are without the
-/// program's name; the readings are `scan STUDY`, `limits STUDY SPECTRUM`, `limits STUDY SPECTRUM LEVELS`,
-/// `drill N` and `verify STUDY REPORT`.
+/// program's name; the readings are `scan STUDY`, `candidates STUDY`, `tolerance STUDY`,
+/// `outages STUDY`, `limits STUDY SPECTRUM`, `limits STUDY SPECTRUM LEVELS`, `drill N` and `verify STUDY REPORT`.
 pub fn run<F: Shelf, O: Sink, E: Sink>(
     alloc: Global,
     words: &[String],

@@ -5,11 +5,10 @@ ghost use Rattle.band_subdivision.specs.BoxText.{HasText};
 ghost use Rattle.harm_io.specs.Sinks.{Writes};
 ghost use Rattle.scan_report.specs.Rows.{row_text};
 ghost use Rattle.study_model.specs.Lawful.{IsLawful, IsLawfulScan};
-ghost use Rattle.study_scans.specs.Scan.{boxes_in};
-ghost use Rattle.harmscan_core.specs.Texts.{head_text, open_text, ended_text, step_text, boxes_text, summary_text, end_text, body_text, scan_text, scans_text, whole_text};
-ghost use Rattle.study_scans.specs.Plan.{IsPlan};
-ghost use Rattle.study_scans.specs.Report.{row_of, report_status};
-ghost use Rattle.study_scans.specs.Fold.{most_boxes, tallied, no_tally, found_over};
+ghost use Rattle.harmscan_core.specs.Plans.{AreReady, found_among, plan_status};
+ghost use Rattle.harmscan_core.specs.Texts.{head_text, open_text, ended_text, step_text, boxes_text, summary_text, end_text, body_text, scan_text, plan_text, whole_text};
+ghost use Rattle.study_scans.specs.Report.{row_of};
+ghost use Rattle.study_scans.specs.Fold.{most_boxes, tallied, no_tally, nothing_found};
 ghost use Rattle.study_scans.specs.Regions.{ohms_of_summit, row_of_region};
 ghost use Rattle.study_scans.specs.Tallies.{IsTally};
 ghost use Rattle.scan_report.specs.Rows.{IsOhms};
@@ -240,11 +239,10 @@ fn put_scan<E: Enclosure, O: Sink>(
 ) -> Result<Counts, PutFault>
     requires hz { IsIn HERTZ study.now.hz }
     requires scan { IsLawfulScan study.now.version study.now.model study.now.buses scan.now }
-    requires boxes { walk.old.left ≡ boxes_in study.now scan.now }
     requires text { AllByRecursion HasText walk.old.left }
     requires few { length walk.old.left < most_boxes }
-    ensures wrote { Writes (scan_text study.now scan.now) (O.state out.old) (O.state out.new) result }
-    ensures counts { IfOk result (λ c. c ≡ (tallied no_tally (boxes_in study.now scan.now)).counts) }
+    ensures wrote { Writes (scan_text study.now scan.now walk.old.left) (O.state out.old) (O.state out.new) result }
+    ensures counts { IfOk result (λ c. c ≡ (tallied no_tally walk.old.left).counts) }
 {
     match put_head(study, scan, line, out) {
         Ok(()) => put_body(study.hz, walk, scan, line, out),
@@ -260,9 +258,9 @@ fn put_scans<E: Enclosure, O: Sink>(
     out: &mut O,
 ) -> Result<Found, PutFault>
     requires study { IsLawful study.now }
-    requires plan { IsPlan study.now plan.old.items }
-    ensures wrote { Writes (scans_text study.now study.now.scans) (O.state out.old) (O.state out.new) result }
-    ensures found { IfOk result (λ f. f ≡ found_over study.now) }
+    requires plan { AreReady study.now plan.old.items }
+    ensures wrote { Writes (plan_text study.now plan.old.items) (O.state out.old) (O.state out.new) result }
+    ensures found { IfOk result (λ f. f ≡ found_among nothing_found plan.old.items) }
 {
     let mut found = Found::NOTHING;
     'scans: while let Some(planned) = plan.pop_front() {
@@ -275,21 +273,21 @@ fn put_scans<E: Enclosure, O: Sink>(
     Ok(found)
 }
 
-/// Puts the report of a study by the plan of its scans, and answers the status.
-#[tactic(auto, unfolding(crate::specs::Texts::whole_text, study_scans::specs::Report::report_status), using(harm_io::proofs::Writing::second_piece))]
-pub fn put_report<E: Enclosure, O: Sink>(
+/// Puts all rows of the scans of a plan and the last row, and answers its status.
+#[tactic(auto, unfolding(crate::specs::Texts::whole_text, crate::specs::Plans::plan_status), using(harm_io::proofs::Writing::second_piece))]
+pub fn put_plan<E: Enclosure, O: Sink>(
     study: &Study,
     plan: &mut VecDeque<PlannedScan<E>>,
+    line: &mut LineBuf,
     out: &mut O,
 ) -> Result<u8, PutFault>
     requires study { IsLawful study.now }
-    requires plan { IsPlan study.now plan.old.items }
-    ensures wrote { Writes (whole_text study.now (report_status study.now)) (O.state out.old) (O.state out.new) result }
-    ensures status { IfOk result (λ s. s ≡ report_status study.now) }
+    requires plan { AreReady study.now plan.old.items }
+    ensures wrote { Writes (whole_text study.now plan.old.items) (O.state out.old) (O.state out.new) result }
+    ensures status { IfOk result (λ s. s ≡ plan_status plan.old.items) }
 {
-    let mut line = LineBuf::new();
-    match put_scans(study, plan, &mut line, out) {
-        Ok(found) => put_end(found.status(), &mut line, out),
+    match put_scans(study, plan, line, out) {
+        Ok(found) => put_end(found.status(), line, out),
         Err(fault) => Err(fault),
     }
 }

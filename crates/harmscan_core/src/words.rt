@@ -3,13 +3,19 @@ ghost use Rattle.std.specs.Prelude.{◌≡◌, option_map};
 ghost use Rattle.std.specs.Char.{is_ascii_digit};
 ghost use Rattle.std.specs.List.{list_all};
 ghost use Rattle.harm_io.specs.Memory.{names_of};
-ghost use Rattle.harmscan_core.specs.Words.{is_file_word, has_no_leading_zero, is_number_word, number_in, reading, reading_of, reading_of_two, reading_of_three, seen};
+ghost use Rattle.harmscan_core.specs.Words.{is_file_word, has_no_leading_zero, is_number_word, number_in, reading, reading_of, reading_of_one, reading_of_two, reading_of_three, seen};
 
 /// What the words ask for.
 #[derive(Clone, Copy)]
 pub enum Command<'a> {
     /// The scan of the study in the file of this name.
     Scan(&'a str),
+    /// Which size of its candidate banks is safe.
+    Candidates(&'a str),
+    /// Its scan for all values within its tolerances.
+    Tolerance(&'a str),
+    /// Its scan without each of its outages in turn.
+    Outages(&'a str),
     /// The distortion of the spectrum in the study, by the names of their files, and the name of the file of planning levels.
     Limits(&'a str, &'a str, Option<&'a str>),
     /// The drill of this number.
@@ -60,21 +66,34 @@ fn number_in(word: &str) -> Option<u32>
     }
 }
 
+/// What a command with the name of one file asks for, where it is one.
+fn reading_of_one<'a>(first: &str, study: &'a str) -> Option<Command<'a>>
+    ensures { option_map seen result ≡ reading_of_one first.now study.now }
+{
+    if first == "scan" {
+        Some(Command::Scan(study))
+    } else if first == "candidates" {
+        Some(Command::Candidates(study))
+    } else if first == "tolerance" {
+        Some(Command::Tolerance(study))
+    } else if first == "outages" {
+        Some(Command::Outages(study))
+    } else {
+        None
+    }
+}
+
 /// What two words ask for, where they have a reading.
 fn reading_of<'a>(first: &str, word: &'a str) -> Option<Command<'a>>
     ensures { option_map seen result ≡ reading_of first.now word.now }
 {
-    if first == "scan" {
-        if is_file_word(word.as_bytes()) {
-            Some(Command::Scan(word))
-        } else {
-            None
-        }
-    } else if first == "drill" {
+    if first == "drill" {
         match number_in(word) {
             Some(number) => Some(Command::Drill(number)),
             None => None,
         }
+    } else if is_file_word(word.as_bytes()) {
+        reading_of_one(first, word)
     } else {
         None
     }

@@ -37,7 +37,7 @@ const TOO_LARGE: Answer<'static> = Answer {
 
 #[test]
 fn words_without_a_reading(rt: HostRuntime) -> Result<(), Fail> {
-    let cases: [&[&str]; 25] = [
+    let cases: [&[&str]; 31] = [
         &[],
         &["help"],
         &["--help"],
@@ -46,6 +46,12 @@ fn words_without_a_reading(rt: HostRuntime) -> Result<(), Fail> {
         &["scan", "-a"],
         &["Scan", "study.toml"],
         &["scan", "study.toml", "study.toml"],
+        &["candidates"],
+        &["candidates", ""],
+        &["tolerance", "-a"],
+        &["tolerances", "study.toml"],
+        &["outages", "study.toml", "study.toml"],
+        &["Outages", "study.toml"],
         &["drill"],
         &["drill", ""],
         &["drill", "00"],

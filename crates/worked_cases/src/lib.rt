@@ -43,6 +43,10 @@ mod studies;
 #[cfg(test)]
 mod torn;
 #[cfg(test)]
+mod variant_recipes;
+#[cfg(test)]
 mod variant_refusals;
+#[cfg(test)]
+mod variants;
 #[cfg(test)]
 mod verified;

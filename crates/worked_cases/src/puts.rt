@@ -1,7 +1,8 @@
 // Reports of which a line is not taken, through the program.
 use crate::answers::{SCAN, assert_status, assert_text, shelf_with, status_of};
 use crate::refusing::RefusingSink;
-use crate::{drills, studies};
+use crate::variants::{OUTAGES, TOLERANCE};
+use crate::{drills, studies, variants};
 use harm_io::{MemoryShelf, MemorySink, SteadySink};
 use std::alloc::Global;
 use std::process::Abort;
@@ -50,21 +51,42 @@ fn assert_line(
 }
 
 /// Each line is one put.
-#[test]
-fn each_put_that_fails(rt: HostRuntime) -> Result<(), Fail> {
-    let mut shelf = shelf_with(rt.alloc(), studies::TWO_RESONANCES.as_bytes())?;
-    let mut lines = Vec::new(rt.alloc());
-    for (call, line) in studies::TWO_RESONANCES_LINES {
-        assert_line(&rt, rt.alloc(), &SCAN, &mut shelf, &lines, (call, line))?;
+fn assert_each_put(
+    rt: &impl Abort,
+    alloc: Global,
+    words: &[&str],
+    study: &str,
+    report: &[(u32, &str)],
+) -> Result<(), Fail> {
+    let mut shelf = shelf_with(alloc, study.as_bytes())?;
+    let mut lines = Vec::new(alloc);
+    for (call, line) in report {
+        assert_line(rt, alloc, words, &mut shelf, &lines, (*call, *line))?;
         lines.extend_from_slice(line.as_bytes())?;
     }
-    assert_text(
-        &rt,
-        "all lines",
-        &lines,
-        studies::TWO_RESONANCES_REPORT.as_bytes(),
-    );
+    let mut out = SteadySink::new(alloc);
+    let mut err = SteadySink::new(alloc);
+    status_of(alloc, words, &mut shelf, &mut out, &mut err)?;
+    assert_text(rt, "all lines", out.taken(), &lines);
     Ok(())
+}
+
+#[test]
+fn each_put_that_fails(rt: HostRuntime) -> Result<(), Fail> {
+    let lines = &studies::TWO_RESONANCES_LINES;
+    assert_each_put(&rt, rt.alloc(), &SCAN, studies::TWO_RESONANCES, lines)
+}
+
+#[test]
+fn each_put_on_tolerances_that_fails(rt: HostRuntime) -> Result<(), Fail> {
+    let lines = &variants::TOLERANT_LINES;
+    assert_each_put(&rt, rt.alloc(), &TOLERANCE, variants::TOLERANT, lines)
+}
+
+#[test]
+fn each_put_on_outages_that_fails(rt: HostRuntime) -> Result<(), Fail> {
+    let lines = &variants::TWO_OUTAGES_LINES;
+    assert_each_put(&rt, rt.alloc(), &OUTAGES, variants::TWO_OUTAGES, lines)
 }
 
 #[test]

@@ -10,4 +10,4 @@ returns-in-Err g c = ends (stops c.in-Err.outcome c.in-Err.ensures.read refl) re
 pub returns-in-Ok : goal.returns-in-Ok
 returns-in-Ok g c =
     reports (scanned c.in-Ok.accepted.study)
-    (goes_on c.in-Ok.accepted.study (g.F.Shelf.state c.study_from.new.shelf) c.in-Ok.ensures.read (record { stays = refl; answer = refl })) c.report.ensures
+    (goes_on c.in-Ok.accepted.study (g.F.Shelf.state c.study_from.new.shelf) c.in-Ok.ensures.read (record { stays = refl; answer = refl })) c.report_scans.ensures

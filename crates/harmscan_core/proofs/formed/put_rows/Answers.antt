@@ -1,5 +1,5 @@
-use Rattle.harmscan_core.proofs.Distorted.{row_put, row_not_put}
-use Rattle.harmscan_core.proofs.distortion.put_rows.Goals as goal
+use Rattle.harmscan_core.proofs.PutRows.{row_put, row_not_put}
+use Rattle.harmscan_core.proofs.formed.put_rows.Goals as goal
 
 pub returns-in-Err : goal.returns-in-Err
 returns-in-Err g c =
