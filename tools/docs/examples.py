@@ -12,7 +12,7 @@ def text(path):
 
 
 readme, recipes = text("README.md"), text("docs/recipes.md")
-tests = text("crates/worked_cases/src/examples.rt") + text("crates/worked_cases/src/recipes.rt")
+tests = "".join(text(f"crates/worked_cases/src/{name}.rt") for name in ("examples", "recipes", "variant_recipes"))
 industrial = text("examples/industrial.toml")
 differing = []
 if f"```toml\n{industrial}```\n" not in readme:
