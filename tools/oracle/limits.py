@@ -36,19 +36,8 @@ def node_of(study, bus, phase):
 
 def owned(study, order):
     """The network that an order sees, and the numbers of its elements, from 1 over the kinds in order, each with its own branches."""
-    phases = isinstance(study, scan.Phases)
-    net = scan.Network(len(study.kv) * (3 if phases else 1))
-    owners = []
-    for kind in KINDS:
-        for entry in study.table.get(kind, []):
-            before = len(net.branches)
-            if phases:
-                getattr(study, kind + "_phases")(net, entry)
-            else:
-                getattr(study, kind)(net, entry, order % 3 == 0)
-            part = scan.Network(net.buses)
-            part.branches = net.branches[before:]
-            owners.append((len(owners) + 1, part))
+    net = study.network() if isinstance(study, scan.Phases) else study.network(order % 3 == 0)
+    owners = [(number, net.only(number)) for number in range(1, len(study.elements()) + 1)]
     return net, owners
 
 
@@ -68,7 +57,7 @@ class Order:
         self.volts = None
         try:
             # the units of each element that has a live node, by its number
-            self.units = [(owner, unit) for owner, part in owners for unit in scan.units_of(a, part, self.places)]
+            self.units = [(owner, unit) for owner, part in owners for unit in scan.units_of(a, part, part, self.places)]
             self.volts = scan.solution(a, self.matrix(), self.right(rows))
         except (NoValue, KeyError):
             # a node that isn't live has no place, and no solution where a current is injected

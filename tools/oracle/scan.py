@@ -347,21 +347,51 @@ class Network:
         self.buses = buses
         self.nodes = buses
         self.branches = []
+        self.owners = []
+        self.owner = 0
+
+    def add(self, taps, law):
+        self.branches.append((taps, law))
+        self.owners.append(self.owner)
+
+    def with_branches(self, kept):
+        """With these branches in the place of its own: pairs of a branch and its owner."""
+        other = Network(self.buses)
+        other.nodes = self.nodes
+        other.branches, other.owners = [branch for branch, _ in kept], [owner for _, owner in kept]
+        return other
+
+    def without(self, owner):
+        """Without the branches of an element; its own nodes stay."""
+        return self.with_branches([(branch, own) for branch, own in zip(self.branches, self.owners) if own != owner])
+
+    def only(self, owner):
+        """With the branches of one element alone."""
+        return self.with_branches([(branch, own) for branch, own in zip(self.branches, self.owners) if own == owner])
+
+    def widened(self, owner, factor):
+        """With each r, x and xc, and each b, of an element's branches times a factor."""
+        def law_of(law):
+            if law[0] == "shunt":
+                return ("shunt", law[1] * factor)
+            _, r, k, m, x, xc = law
+            return ("series", r * factor, k, m, x * factor, xc * factor)
+        return self.with_branches([((taps, law_of(law) if own == owner else law), own) for (taps, law), own in zip(self.branches, self.owners)])
 
     def inner(self):
         self.nodes += 1
         return self.nodes - 1
 
     def series(self, taps, r, x, xc=Fraction(0), k=Fraction(0), m=Fraction(1)):
-        self.branches.append((taps, ("series", r, k, m, x, xc)))
+        self.add(taps, ("series", r, k, m, x, xc))
 
     def shunt(self, taps, b):
-        self.branches.append((taps, ("shunt", b)))
+        self.add(taps, ("shunt", b))
 
     def group(self, three, own, mutual, pairs=None, k=Fraction(0), m=Fraction(1)):
         """Three coupled branches, by their own r and x and the mutual ones; or by the mutual reactances of a and b, b and c, c and a."""
         for place, taps in enumerate(three):
-            self.branches.append((taps, ("coupled", place, *own, mutual[0], *(pairs or [mutual[1]] * 3), k, m)))
+            self.add(taps, ("coupled", place, *own, mutual[0], *(pairs or [mutual[1]] * 3), k, m))
 
     def live(self):
         live = set()
@@ -403,10 +433,17 @@ class Study:
 
     def network(self, zero):
         net = Network(len(self.kv))
-        for kind in ("source", "line", "transformer", "load", "bank", "filter"):
-            for entry in self.table.get(kind, []):
-                getattr(self, kind)(net, entry, zero)
+        for net.owner, (kind, entry) in enumerate(self.elements(), 1):
+            getattr(self, kind)(net, entry, zero)
         return net
+
+    def elements(self):
+        """All elements in their order, each with its kind."""
+        return [(kind, entry) for kind in ("source", "line", "transformer", "load", "bank", "filter") for entry in self.table.get(kind, [])]
+
+    def seen(self, entry):
+        """The network and the node that a scan looks at."""
+        return self.network(entry.get("network", "positive") == "zero"), self.bus[entry["bus"]]
 
     def source(self, net, e, zero):
         r, x = ("r0", "x0") if zero else ("r", "x")
@@ -513,10 +550,12 @@ class Phases(Study):
         if zero is not None:
             return super().network(zero)
         net = Network(3 * len(self.kv))
-        for kind in ("source", "line", "transformer", "load", "bank", "filter"):
-            for entry in self.table.get(kind, []):
-                getattr(self, kind + "_phases")(net, entry)
+        for net.owner, (kind, entry) in enumerate(self.elements(), 1):
+            getattr(self, kind + "_phases")(net, entry)
         return net
+
+    def seen(self, entry):
+        return self.network(), 3 * self.bus[entry["bus"]] + "abc".index(entry["phase"])
 
     def of_bus(self, name):
         return [3 * self.bus[name] + phase for phase in range(3)]
@@ -664,15 +703,16 @@ def solution(a, rows, right):
 
 
 class Unit:
-    """A branch alone, or three coupled ones, with the taps that are at live nodes."""
+    """A branch alone, or three coupled ones, with the taps that are at live nodes, and the law from that of one network to that of another."""
 
-    def __init__(self, a, branches, places):
+    def __init__(self, a, branches, places, high=None):
         self.a = a
-        self.law = branches[0][1]
+        self.law, self.high = branches[0][1], high or branches[0][1]
         self.exact = [[tap for tap in taps if tap[0] in places] for taps, _ in branches]
         self.taps = [[(places[node], a.of(ratio)) for node, ratio in taps] for taps in self.exact]
         self.factors = [[[(i, j, a.mul(c, d)) for i, c in row for j, d in column] for column in self.taps] for row in self.taps]
-        self.values = [a.of(x) for x in self.law[2 if self.law[0] == "coupled" else 1:]]
+        first = 2 if self.law[0] == "coupled" else 1
+        self.values = [a.range(x, y) for x, y in zip(self.law[first:], self.high[first:])]
 
     def resistance(self, r, h, k, m):
         a = self.a
@@ -715,27 +755,29 @@ class Unit:
         return [Unit(self.a, [branch], places) for branch in four if branch[0]]
 
 
-def units_of(a, net, places):
-    """The branches and groups that have a live node."""
-    units, rest = [], list(net.branches)
-    while rest:
-        count = 3 if rest[0][1][0] == "coupled" else 1
-        branches, rest = rest[:count], rest[count:]
+def units_of(a, net, high, places):
+    """The branches and groups that have a live node, from one network to another."""
+    units, at = [], 0
+    while at < len(net.branches):
+        count = 3 if net.branches[at][1][0] == "coupled" else 1
+        branches = net.branches[at:at + count]
         if any(node in places for taps, _ in branches for node, _ in taps):
-            units.append(Unit(a, branches, places))
+            units.append(Unit(a, branches, places, high.branches[at][1]))
+        at += count
     return units
 
 
 # ---- the matrix of a box, and its reduction
 
 class Scan:
-    def __init__(self, study, entry):
+    """A scan of the network that the study has for it, or of others from one to another, with an extra susceptance at its node."""
+
+    def __init__(self, study, entry, pair=None, extra=Fraction(0)):
         self.a = Arithmetic(study.scale)
         self.bus = study.bus[entry["bus"]]
-        if "phase" in entry:
-            net, driven = study.network(), 3 * self.bus + "abc".index(entry["phase"])
-        else:
-            net, driven = study.network(entry.get("network", "positive") == "zero"), self.bus
+        net, driven = study.seen(entry)
+        net, self.high = pair or (net, net)
+        self.extra = extra
         live = net.live()
         ordering = [n for n in range(net.buses, net.nodes) if n in live]
         ordering += [n for n in range(net.buses) if n in live and n != driven]
@@ -754,7 +796,7 @@ class Scan:
 
     def prepared(self):
         if self.units is None:
-            self.units = units_of(self.a, self.net, self.places)
+            self.units = units_of(self.a, self.net, self.high, self.places)
         return self.units
 
     def orders(self, lo, hi):
@@ -784,15 +826,17 @@ class Scan:
                 factor = a.cdiv(row[step], head)
                 for column in range(step + 1, self.size):
                     row[column] = a.csub(row[column], a.cmul(factor, pivot[column]))
-        value = rows[-1][-1]
-        # H·e with e = 0
-        return value
+        return rows[-1][-1]
 
-    def by_elimination(self, rows, T):
+    def extra_at(self, lo, hi):
+        """The admittance of the extra susceptance."""
+        return ((0, 0), self.a.mul(self.orders(lo, hi), self.a.of(self.extra)))
+
+    def by_elimination(self, rows, more, T):
         """The answers of the elimination part: whether it clears, and its micro-ohms. T is the threshold per unit."""
         clear_bound, above_bound = math.ceil((1 << self.a.scale) / T), math.floor((1 << self.a.scale) / T)
         try:
-            y = self.reduced(rows)
+            y = self.a.cadd(self.reduced(rows), more)
         except NoValue:
             return False, None
         clear = clear_bound <= LIMIT and low_square(y) >= clear_bound ** 2
@@ -800,10 +844,11 @@ class Scan:
             return clear, None
         return clear, (self.v * self.v << self.a.scale) // (self.s * root_ceil(high_square(y)))
 
-    def by_inverse(self, rows, T):
+    def by_inverse(self, rows, more, T):
         """The same of the inverse part."""
         most, least = math.floor(T * (1 << self.a.scale)), math.ceil(T * (1 << self.a.scale))
         try:
+            rows = rows[:-1] + [rows[-1][:-1] + [self.a.cadd(rows[-1][-1], more)]]
             re, im, error = enclosed(self.a, rows)
         except NoValue:
             return False, None
@@ -820,7 +865,8 @@ class Scan:
         try:
             h = self.orders(lo, hi)
             parts = [part for unit in self.prepared() for part in unit.apart(self.places)]
-            z, error = estimated(self.a, self.size, [part.kept(h) for part in parts])
+            bank = [([[(self.size - 1, self.a.of(Fraction(1)))]], [[self.extra_at(lo, hi)]], False)] if self.extra > 0 else []
+            z, error = estimated(self.a, self.size, [part.kept(h) for part in parts] + bank)
         except NoValue:
             return False, None
         clear = most <= LIMIT and root_ceil(high_square(z)) + error <= most
@@ -835,15 +881,15 @@ class Scan:
             return
         T = self.curve.least(lo, hi) * self.s / (self.v * self.v)
         try:
-            rows = self.matrix(lo, hi)
+            rows, more = self.matrix(lo, hi), self.extra_at(lo, hi)
         except NoValue:
-            rows = None
+            rows = more = None
         if rows:
-            yield self.by_elimination(rows, T)
+            yield self.by_elimination(rows, more, T)
         if self.method == "branchwise":
             yield self.by_branches(lo, hi, T)
         elif rows and self.method == "both" and hi - lo <= self.locate:
-            yield self.by_inverse(rows, T)
+            yield self.by_inverse(rows, more, T)
 
     def is_clear(self, lo, hi):
         return any(clear for clear, _ in self.answers(lo, hi))
@@ -889,12 +935,13 @@ def region_row(number, run, hz):
     return f"region,{number},{six(lo)},{six(hi)},{six(low)},{six(high)},{len(peaks)},{len(run) - len(peaks)},{dash(best[3])},{dash(best[4])}"
 
 
-def report(table):
+def report(table, made=Scan):
+    """The report of scans that are made so."""
     study = study_of(table)
     hz = millionths(str(table["study"].get("hz", 50)))
     status = 0
     for entry in table.get("scan", []):
-        scan = Scan(study, entry)
+        scan = made(study, entry)
         threshold = six(millionths(str(entry["threshold"]))) if "threshold" in entry else "curve"
         method = table["study"].get("method", "elimination")
         yield f"scan,{entry['name']},{entry['bus']},{entry.get('phase', entry.get('network', 'positive'))},{six(scan.lo)},{six(scan.hi)},{threshold},{method}"

@@ -110,8 +110,8 @@ class Judge:
 
     def __init__(self, table, entry, rng):
         study = scan.Study(table)
-        bus = study.bus[entry["bus"]]
-        self.exact = Exact(study.network(entry.get("network", "positive") == "zero"), bus, study.kv[bus] ** 2 / study.mva)
+        self.bus = study.bus[entry["bus"]]
+        self.exact = Exact(study.seen(entry)[0], self.bus, study.kv[self.bus] ** 2 / study.mva)
         self.curve, self.rng, self.entry, self.asked = scan.Curve(entry), rng, entry, 0
 
     def threshold(self, h):
