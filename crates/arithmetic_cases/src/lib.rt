@@ -17,3 +17,5 @@ mod patterns;
 mod rectangles;
 #[cfg(test)]
 mod rows;
+#[cfg(test)]
+mod sums;

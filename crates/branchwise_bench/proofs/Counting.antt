@@ -150,12 +150,6 @@ pub no_more : {B : Type 0} (L : B → LiveBranch) (bs : List B) → length bs < 
 no_more L [] l = refl
 no_more L (b ∷ bs) l = absurd (omega arith)
 
-pub first_more : {B C : Type 0} (L : B → C) (bs : List B) (b : B) → 1 ≤ length bs → b ≡ get_or bs 0 b → map L bs ≡ L b ∷ map L (take (length bs - 1) (drop 1 bs))
-first_more L [] b l e = absurd (omega arith)
-first_more L (c ∷ bs) b l e =
-    let k : suc (length bs) - 1 ≡ length bs = omega arith in
-    rw (k, take_all (length bs) bs (omega arith)) (ap (λ x. L x ∷ map L bs) (sym e))
-
 pub all_of : {R : Type 0} (h : R → DropEnds) (rs : List R) (n : ℕ) → length rs ≤ n → take n (map h rs) ≡ map h rs
 all_of h rs n l = take_all n (map h rs) (rw (length-map rs h) l)
 

@@ -7,31 +7,9 @@ use Rattle.admittance_box.specs.Addends.{PlacedTap, TapPair, has_place}
 use Rattle.admittance_box.specs.Assembled.{Assembled}
 use Rattle.admittance_box.specs.Steps.{◌>>=◌}
 use Rattle.admittance_box.proofs.TapLoops.{map-append_one}
-use Rattle.branchwise_test.specs.Drops.{LiveBranch, DropEnds, live_branch, live_branches}
+use Rattle.branchwise_test.specs.Drops.{LiveBranch, DropEnds, live_branches}
 use Rattle.branchwise_bench.specs.Layout.{bare_node, bare_nodes, own_drop}
-use Rattle.branchwise_bench.specs.Live.{with_live}
 use Rattle.branchwise_bench.specs.Pair.{BranchwisePair, branchwise_pair}
-
--- ---- live branches
-module _ (s : ℕ) (ordering : List ℕ) (a c : Branch) (front : List LiveBranch) (ls hs : List Branch) where
-  pub live_more : (new : List LiveBranch) → Some new ≡ with_live s ordering a c front → option_map (λ more. new ++ more) (live_branches s ordering ls hs) ≡ option_map (λ more. front ++ more) (live_branches s ordering (a ∷ ls) (c ∷ hs))
-  live_more new e = go (has_place ordering a.taps) (live_branch s ordering a c) (live_branches s ordering ls hs) e
-    where
-      go : (t : Bool) (o : Option LiveBranch) (rest : Option (List LiveBranch)) → Some new ≡ (if t then o >>= (λ l. Some (front ++ l ∷ [])) else Some front)
-          → option_map (λ more. new ++ more) rest ≡ option_map (λ more. front ++ more) (if t then o >>= (λ l. rest >>= (λ ls. Some (l ∷ ls))) else rest)
-      go true (Some b) None e = refl
-      go true (Some b) (Some more) e = let k : new ≡ front ++ b ∷ [] = cc in ap Some (ap (λ l. l ++ more) k ∙ append_assoc front (b ∷ []) more)
-      go true None rest e = absurd cc
-      go false o rest e = let k : new ≡ front = cc in ap (λ l. option_map (λ more. l ++ more) rest) k
-
-  pub live_none : None ≡ with_live s ordering a c front → None ≡ option_map (λ more. front ++ more) (live_branches s ordering (a ∷ ls) (c ∷ hs))
-  live_none e = go (has_place ordering a.taps) (live_branch s ordering a c) (live_branches s ordering ls hs) e
-    where
-      go : (t : Bool) (o : Option LiveBranch) (rest : Option (List LiveBranch)) → None ≡ (if t then o >>= (λ l. Some (front ++ l ∷ [])) else Some front)
-          → None ≡ option_map (λ more. front ++ more) (if t then o >>= (λ l. rest >>= (λ ls. Some (l ∷ ls))) else rest)
-      go true (Some b) rest e = absurd cc
-      go true None rest e = refl
-      go false o rest e = absurd cc
 
 -- ---- the drops of nodes
 module _ {R : Type 0} (h : R → DropEnds) (s : ℕ) where
@@ -57,16 +35,6 @@ owns_more taps pairs before after whole others e k =
     k ∙ (ap (λ l. l ++ others) e ∙ (append_assoc before (own_drop taps pairs []) others ∙ ap (λ l. before ++ l) (own_append taps pairs others)))
 
 -- ---- results
-pub none_of : {X : Type 0} (o : Option (Unit {0})) (t : Bool) (x : X) (w : Option X) → t ≡ true → is_some o ≡ not t → option_map (λ _. x) o ≡ w → None ≡ w
-none_of (Some u) true x w k e q = absurd cc
-none_of (Some u) false x w k e q = absurd cc
-none_of None t x w k e q = q
-
-pub some_of : {X : Type 0} (o : Option (Unit {0})) (t : Bool) (x : X) (w : Option X) → t ≡ false → is_some o ≡ not t → option_map (λ _. x) o ≡ w → Some x ≡ w
-some_of (Some u) t x w k e q = q
-some_of None true x w k e q = absurd cc
-some_of None false x w k e q = absurd cc
-
 -- the live branches that were added to none
 pub all_live : (o : Option (Unit {0})) (u : Unit {0}) (new front : List LiveBranch) (stated : Option (List LiveBranch)) → o ≡ Some u → front ≡ [] → option_map (λ _. new) o ≡ option_map (λ more. front ++ more) stated → stated ≡ Some new
 all_live o u new front stated q e k = go stated (ap (option_map (λ _. new)) (sym q) ∙ (k ∙ ap (λ l. option_map (λ more. l ++ more) stated) e))

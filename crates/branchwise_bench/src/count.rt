@@ -6,10 +6,10 @@ ghost use Rattle.complex_interval.specs.Rect.{rectangle_of};
 ghost use Rattle.branchwise_test.specs.Drops.{counted, with_branch, with_branches};
 ghost use Rattle.drop_bench.specs.Drops.{drop_ends, bare};
 ghost use Rattle.branchwise_bench.specs.Layout.{bare_nodes, own_drops, own_count, BeginsWithOwn, raised_at, with_extra, counted_all};
-ghost use Rattle.branchwise_bench.specs.Live.{live_ends};
+ghost use Rattle.branchwise_live.specs.Live.{live_ends};
 
-use crate::live::LiveBranchIntervals;
 use admittance_box::{exact_one, shunt_admittance};
+use branchwise_live::LiveBranchIntervals;
 use complex_interval::{Enclosure, Rect};
 use drop_bench::DropIntervals;
 use exact_fraction::Fraction;

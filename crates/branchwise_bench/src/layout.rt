@@ -2,10 +2,10 @@
 ghost use Rattle.std.specs.Prelude.{◌≡◌, ◌++◌, [], IfOk, map};
 ghost use Rattle.drop_bench.specs.Drops.{drop_ends};
 ghost use Rattle.branchwise_bench.specs.Layout.{bare_node, bare_nodes, own_drop, own_drops};
-ghost use Rattle.branchwise_bench.specs.Live.{live_ends};
+ghost use Rattle.branchwise_live.specs.Live.{live_ends};
 
-use crate::live::LiveBranchIntervals;
 use admittance_box::{PlacedTap, TapProduct, exact_one};
+use branchwise_live::LiveBranchIntervals;
 use complex_interval::Enclosure;
 use drop_bench::DropIntervals;
 use middle_inverse::nought_point;

@@ -4,8 +4,6 @@
 
 mod count;
 mod layout;
-mod live;
 mod pair;
 
-pub use live::LiveBranchIntervals;
 pub use pair::BranchwiseBench;

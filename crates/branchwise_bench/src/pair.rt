@@ -5,7 +5,7 @@ ghost use Rattle.exact_fraction.specs.Fraction.{ratio_of};
 ghost use Rattle.branchwise_test.specs.Enclosed.{near_of_branches};
 ghost use Rattle.drop_bench.specs.Drops.{drop_ends, bare};
 ghost use Rattle.branchwise_bench.specs.Layout.{AreInside};
-ghost use Rattle.branchwise_bench.specs.Live.{live_ends};
+ghost use Rattle.branchwise_live.specs.Live.{live_ends};
 ghost use Rattle.drop_bench.specs.Near.{near_of};
 ghost use Rattle.branchwise_bench.specs.Pair.{LivePair, BranchwisePair, branchwise_pair, IsLaidOut};
 ghost use Rattle.drop_bench.specs.Results.{result_of};
@@ -13,8 +13,8 @@ ghost use Rattle.plain_elimination.specs.declared.limits.TheConstants.{MAX_SIZE}
 
 use crate::count::count_all;
 use crate::layout::{node_drops, push_own_drops};
-use crate::live::{LiveBranchIntervals, push_live_branches};
 use admittance_box::{Assembly, order_range};
+use branchwise_live::{LiveBranchIntervals, push_live_branches};
 use branchwise_test::BranchwiseFault;
 use complex_interval::Enclosure;
 use drop_bench::{DropBench, DropIntervals, Near};
@@ -34,7 +34,7 @@ struct LiveBench<E: Enclosure> {
 impl<E: Enclosure> Model for LiveBench<E> {
     ghost use Rattle.std.specs.Prelude.{map};
     ghost use Rattle.drop_bench.specs.Drops.{drop_ends, bare};
-    ghost use Rattle.branchwise_bench.specs.Live.{live_ends};
+    ghost use Rattle.branchwise_live.specs.Live.{live_ends};
     ghost use Rattle.branchwise_bench.specs.Pair.{LivePair, IsLaidOut};
 
     ghost Value = { LivePair };

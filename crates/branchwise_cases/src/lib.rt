@@ -4,6 +4,8 @@
 #[cfg(test)]
 mod estimates;
 #[cfg(test)]
+mod groups;
+#[cfg(test)]
 mod networks;
 #[cfg(test)]
 mod outcomes;

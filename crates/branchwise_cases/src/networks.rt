@@ -11,9 +11,9 @@ use sqlite_items::Items;
 use std::alloc::Global;
 use std::test::Fail;
 
-const ZERO: Fraction = Fraction { num: 0, den: 1 };
+pub const ZERO: Fraction = Fraction { num: 0, den: 1 };
 
-const ONE: Fraction = Fraction { num: 1, den: 1 };
+pub const ONE: Fraction = Fraction { num: 1, den: 1 };
 
 /// A whole number.
 pub fn whole(num: i64) -> Fraction {
@@ -74,7 +74,8 @@ fn law_of(value: Value) -> Law
     }
 }
 
-fn tap(number: u32, ratio: Fraction) -> Tap {
+/// A tap at the node of this number.
+pub fn tap(number: u32, ratio: Fraction) -> Tap {
     Tap {
         node: NodeId { number },
         ratio,
@@ -89,7 +90,8 @@ fn taps_of(alloc: Global, part: &Part) -> Result<Items<Tap>, Fail> {
     }
 }
 
-fn branch_of(alloc: Global, part: &Part) -> Result<Branch, Fail>
+/// The branch of a part.
+pub fn branch_of(alloc: Global, part: &Part) -> Result<Branch, Fail>
     ensures { IfOk result (λ branch. IsUncoupled (exact_branch branch)) }
 {
     Ok(Branch {
@@ -100,8 +102,9 @@ fn branch_of(alloc: Global, part: &Part) -> Result<Branch, Fail>
     })
 }
 
+/// Adds a branch of its own.
 #[tactic(auto, using(net_branch::proofs::Wholes::uncoupled_next, net_branch::proofs::Wholes::uncoupled_grouped, net_branch::proofs::Wholes::whole_growing))]
-fn push(alloc: Global, network: &mut Network, branch: Branch) -> Result<(), NetFault>
+pub fn push(alloc: Global, network: &mut Network, branch: Branch) -> Result<(), NetFault>
     requires whole { IsWholeNetwork network.old }
     requires uncoupled { IsUncoupled (exact_branch branch) }
     ensures { IsWholeNetwork network.new }

@@ -43,7 +43,7 @@ fn outcomes(alloc: Global, case: Case<'_>) -> Result<[Expected; 2], Fail> {
 }
 
 /// A real impedance, without an error.
-fn exactly(re: i64) -> Expected {
+pub fn exactly(re: i64) -> Expected {
     Expected::Near([re, re, 0, 0], 0)
 }
 

@@ -1,5 +1,6 @@
 -- A group whose mutual reactances are equal: its nine admittances by two.
-use Rattle.std.proofs.Common.{ℕ, pos, List, [], ◌∷◌, ◌++◌, refl}
+use Rattle.std.proofs.Common.{◌≡◌, ℕ, pos, List, [], ◌∷◌, ◌++◌, length, refl, arith}
+use Rattle.std.specs.Prelude.{◌==◌, if◌then◌else◌}
 use Rattle.exact_algebra.specs.Ratio.{Ratio, ◌≈◌ as ◌≈ᵣ◌, ratio_numbers, whole, times, plus, opposite, difference, den, common}
 use Rattle.exact_algebra.specs.Complex.{Complex, complex_numbers, complex_over, complex_times, complex_plus, complex_whole, real, real_part, imaginary_part}
 use Rattle.exact_algebra.proofs.Complexes.{complex_field, re-complex_plus, im-complex_plus, re-complex_difference, im-complex_difference}
@@ -9,7 +10,8 @@ use Rattle.exact_algebra.proofs.Reals.{re-plus_j, im-plus_j, plus_j_same, re-rea
 use Rattle.network_theory.specs.Order.{Order, fraction}
 use Rattle.network_theory.specs.Branch.{Tap, Branch, Coupling}
 use Rattle.network_theory.specs.Impedance.{resistance, reactance, series_impedance, group_entry}
-use Rattle.network_theory.specs.Admittance.{IsAdmittance, IsGroupAdmittance, Group}
+use Rattle.linear_systems.specs.Linear.{Annuls, IsZeroList}
+use Rattle.network_theory.specs.Admittance.{IsAdmittance, IsGroupAdmittance, Group, group_rows}
 use Rattle.network_theory.specs.Nodal.{pair_entry, part_entry}
 use Rattle.network_theory.proofs.Numbers.{R}
 use Rattle.network_theory.proofs.Sums.{ratio_at}
@@ -75,6 +77,34 @@ module _ (s t y1 y0 z1 z0 : C) (d1 : z1 ≈ thrice (s ⊕ minus t)) (d0 : z0 ≈
       turn : (x y z w : C) → x ⊕ (y ⊕ (z ⊕ nought)) ≈ w → x ⊕ (z ⊕ (y ⊕ nought)) ≈ w
       turn x y z w h = linear R (x ∷ y ∷ z ∷ w ∷ []) (weigh R unit h) (search reads depth 40 fits 4000) none_left
 
+  -- conversely, such columns invert the group's Z
+  twice : C → C
+  twice x = x ⊕ x
+
+  diagonal_sum : s ⊗ (y1 ⊕ y1 ⊕ y0) ⊕ t ⊗ (y0 ⊕ minus y1) ⊕ t ⊗ (y0 ⊕ minus y1) ≈ unit
+  diagonal_sum =
+      thrice_zero _ unit
+      (linear R (s ∷ t ∷ y1 ∷ y0 ∷ z1 ∷ z0 ∷ [])
+      (join R (weigh R (unit ⊕ unit) i1) (join R (weigh R (minus (y1 ⊕ y1)) d1) (join R (weigh R unit i0) (weigh R (minus y0) d0))))
+      (search reads depth 60 fits 20000) none_left)
+
+  beside_sum : t ⊗ (y1 ⊕ y1 ⊕ y0) ⊕ s ⊗ (y0 ⊕ minus y1) ⊕ t ⊗ (y0 ⊕ minus y1) ≈ nought
+  beside_sum =
+      thrice_zero _ nought
+      (linear R (s ∷ t ∷ y1 ∷ y0 ∷ z1 ∷ z0 ∷ [])
+      (join R (weigh R (minus unit) i1) (join R (weigh R y1 d1) (join R (weigh R unit i0) (weigh R (minus y0) d0))))
+      (search reads depth 60 fits 20000) none_left)
+
+  zero_of : (a b c : C) → s ⊗ a ⊕ (t ⊗ b ⊕ (t ⊗ c ⊕ nought)) ≈ nought → t ⊗ a ⊕ (s ⊗ b ⊕ (t ⊗ c ⊕ nought)) ≈ nought → t ⊗ a ⊕ (t ⊗ b ⊕ (s ⊗ c ⊕ nought)) ≈ nought → a ≈ nought
+  zero_of a b c e1 e2 e3 =
+      let u = a ⊕ a ⊕ minus b ⊕ minus c in
+      let v = a ⊕ b ⊕ c in
+      no_third a
+      (linear R (s ∷ t ∷ y1 ∷ y0 ∷ z1 ∷ z0 ∷ a ∷ b ∷ c ∷ [])
+      (join R (weigh R (thrice (y1 ⊕ y1 ⊕ y0)) e1) (join R (weigh R (thrice (y0 ⊕ minus y1)) e2) (join R (weigh R (thrice (y0 ⊕ minus y1)) e3)
+      (join R (weigh R (minus u) i1) (join R (weigh R (y1 ⊗ u) d1) (join R (weigh R (minus v) i0) (weigh R (y0 ⊗ v) d0)))))))
+      (search reads depth 60 fits 20000) none_left)
+
 three_is : whole (pos 3) ≈ᵣ plus (whole (pos 1)) (plus (whole (pos 1)) (whole (pos 1)))
 unfolding whole plus den common
 three_is = record { cross = refl }
@@ -98,6 +128,10 @@ triple Z D p q e f g k = record {
         (join ratio_ring (weigh ratio_ring one g) (join ratio_ring (weigh ratio_ring p three_is) (join ratio_ring (weigh ratio_ring (opposite (plus one (plus one one))) e)
         (join ratio_ring (weigh ratio_ring (opposite one) h) (weigh ratio_ring (opposite one) k)))))
         (search reads depth 40 fits 4000) none_left
+
+-- the nine admittances by two
+abbrev pub even_matrix : C → C → ℕ → ℕ → C
+even_matrix y1 y0 p q = if p == q then y1 ⊕ y1 ⊕ y0 else y0 ⊕ minus y1
 
 -- the entries of a group's Z, and the impedances of the two laws
 resistance-is : (r k m : Ratio) (h : Order) → (g : Ratio) × ((r : Ratio) → resistance r k m h ≈ᵣ times r g)
@@ -194,6 +228,70 @@ module _ (h : Order) (c : Coupling) where
 
       front : (x y z w : C) → x ⊕ (y ⊕ (z ⊕ nought)) ≈ w → z ⊕ (x ⊕ (y ⊕ nought)) ≈ w
       front x y z w h = linear R (x ∷ y ∷ z ∷ w ∷ []) (weigh R unit h) (search reads depth 40 fits 4000) none_left
+
+  -- conversely, a group has admittances where the two laws have
+  pub even_admitted : (y1 y0 : C) → IsEven c → IsAdmittance h (apart_law c) y1 → IsAdmittance h (common_law c) y0 → IsGroupAdmittance h c c c (even_matrix y1 y0)
+  unfolding s t
+  even_admitted y1 y0 e i1 i0 =
+      let bc = back (same_entry c.mutual_r c.x_bc c.x_ab e.bc) in
+      let ca = back (same_entry c.mutual_r c.x_ca c.x_ab e.ca) in
+      let d = diagonal_sum s t y1 y0 _ _ apart_impedance common_impedance i1 i0 in
+      let b = beside_sum s t y1 y0 _ _ apart_impedance common_impedance i1 i0 in
+      record {
+        first = (
+          row3 _ _ _ _ _ _ _ _ _ _ (same s) (same t) ca (in_order _ _ _ _ d),
+          (row3 _ _ _ _ _ _ _ _ _ _ (same t) (same s) bc (in_order _ _ _ _ b), (row3 _ _ _ _ _ _ _ _ _ _ ca bc (same s) (last_two _ _ _ _ b), tt)),
+        );
+        second = (
+          row3 _ _ _ _ _ _ _ _ _ _ (same s) (same t) ca (first_two _ _ _ _ b),
+          (row3 _ _ _ _ _ _ _ _ _ _ (same t) (same s) bc (first_two _ _ _ _ d), (row3 _ _ _ _ _ _ _ _ _ _ ca bc (same s) (to_middle _ _ _ _ b), tt)),
+        );
+        third = (
+          row3 _ _ _ _ _ _ _ _ _ _ (same s) (same t) ca (to_last _ _ _ _ b),
+          (row3 _ _ _ _ _ _ _ _ _ _ (same t) (same s) bc (turned _ _ _ _ b), (row3 _ _ _ _ _ _ _ _ _ _ ca bc (same s) (turned _ _ _ _ d), tt)),
+        );
+        only = record { only = zeros };
+      }
+    where
+      in_order : (x y z w : C) → x ⊕ y ⊕ z ≈ w → x ⊕ (y ⊕ (z ⊕ nought)) ≈ w
+      in_order x y z w h = linear R (x ∷ y ∷ z ∷ w ∷ []) (weigh R unit h) (search reads depth 40 fits 4000) none_left
+
+      last_two : (x y z w : C) → x ⊕ y ⊕ z ≈ w → x ⊕ (z ⊕ (y ⊕ nought)) ≈ w
+      last_two x y z w h = linear R (x ∷ y ∷ z ∷ w ∷ []) (weigh R unit h) (search reads depth 40 fits 4000) none_left
+
+      first_two : (x y z w : C) → x ⊕ y ⊕ z ≈ w → y ⊕ (x ⊕ (z ⊕ nought)) ≈ w
+      first_two x y z w h = linear R (x ∷ y ∷ z ∷ w ∷ []) (weigh R unit h) (search reads depth 40 fits 4000) none_left
+
+      to_middle : (x y z w : C) → x ⊕ y ⊕ z ≈ w → z ⊕ (x ⊕ (y ⊕ nought)) ≈ w
+      to_middle x y z w h = linear R (x ∷ y ∷ z ∷ w ∷ []) (weigh R unit h) (search reads depth 40 fits 4000) none_left
+
+      to_last : (x y z w : C) → x ⊕ y ⊕ z ≈ w → y ⊕ (z ⊕ (x ⊕ nought)) ≈ w
+      to_last x y z w h = linear R (x ∷ y ∷ z ∷ w ∷ []) (weigh R unit h) (search reads depth 40 fits 4000) none_left
+
+      turned : (x y z w : C) → x ⊕ y ⊕ z ≈ w → z ⊕ (y ⊕ (x ⊕ nought)) ≈ w
+      turned x y z w h = linear R (x ∷ y ∷ z ∷ w ∷ []) (weigh R unit h) (search reads depth 40 fits 4000) none_left
+
+      swap : (x y z w : C) → x ⊕ (y ⊕ (z ⊕ nought)) ≈ w → y ⊕ (x ⊕ (z ⊕ nought)) ≈ w
+      swap x y z w h = linear R (x ∷ y ∷ z ∷ w ∷ []) (weigh R unit h) (search reads depth 40 fits 4000) none_left
+
+      front : (x y z w : C) → x ⊕ (y ⊕ (z ⊕ nought)) ≈ w → z ⊕ (x ⊕ (y ⊕ nought)) ≈ w
+      front x y z w h = linear R (x ∷ y ∷ z ∷ w ∷ []) (weigh R unit h) (search reads depth 40 fits 4000) none_left
+
+      zero : (p q r : C) → s ⊗ p ⊕ (t ⊗ q ⊕ (t ⊗ r ⊕ nought)) ≈ nought → t ⊗ p ⊕ (s ⊗ q ⊕ (t ⊗ r ⊕ nought)) ≈ nought → t ⊗ p ⊕ (t ⊗ q ⊕ (s ⊗ r ⊕ nought)) ≈ nought → p ≈ nought
+      zero = zero_of s t y1 y0 _ _ apart_impedance common_impedance i1 i0
+
+      zeros : (x : List C) → length x ≡ 3 → Annuls complex_numbers (group_rows c c c h) x → IsZeroList complex_numbers x
+      zeros [] l a = absurd (omega arith)
+      zeros (p ∷ []) l a = absurd (omega arith)
+      zeros (p ∷ q ∷ []) l a = absurd (omega arith)
+      zeros (p ∷ q ∷ r ∷ w ∷ x) l a = absurd (omega arith)
+      zeros (p ∷ q ∷ r ∷ []) l a =
+          let bc = same_entry c.mutual_r c.x_bc c.x_ab e.bc in
+          let ca = same_entry c.mutual_r c.x_ca c.x_ab e.ca in
+          let r1 = row3 _ _ _ s t t _ _ _ _ (same s) (same t) ca a.0 in
+          let r2 = row3 _ _ _ t s t _ _ _ _ (same t) (same s) bc a.1.0 in
+          let r3 = row3 _ _ _ t t s _ _ _ _ ca bc (same s) a.1.1.0 in
+          (zero p q r r1 r2 r3, (zero q p r (swap _ _ _ _ r2) (swap _ _ _ _ r1) (swap _ _ _ _ r3), (zero r p q (front _ _ _ _ r3) (front _ _ _ _ r1) (front _ _ _ _ r2), tt)))
 
 -- ratios of taps one after the other, and opposed
 ratio-append : (ts us : List Tap) (n : ℕ) → ratio_at (ts ++ us) n ≈ ratio_at ts n ⊕ ratio_at us n

@@ -82,16 +82,24 @@ pub record Raises (l : Link) (p : Pair) (t : Tap) (l' : Link) : Type 0 where
   pub same_taps : l'.taps ≡ l.taps
   pub sum : admittance l' ≈ admittance l ⊕ real (times t.ratio t.ratio) ⊗ p.y
 
+-- the second taps are the first without some at dead nodes
+pub data IsTrimmed (network : Network) : List Tap → List Tap → Type 0 where
+  all : IsTrimmed network [] []
+  kept : (t : Tap) (ts us : List Tap) → IsTrimmed network ts us → IsTrimmed network (t ∷ ts) (t ∷ us)
+  dropped : (t : Tap) (ts us : List Tap) → ¬ Live network t.node → IsTrimmed network ts us → IsTrimmed network (t ∷ ts) us
+
 -- a link that adds nothing
 pub record AddsNothing (network : Network) (l : Link) : Type 0 where
   pub live_out : AtLive network l.out
   pub live_taps : AtLive network l.taps
   pub none : admittance l ≈ nought
 
--- the links count each pair, in whatever order: not at all where one side has no live node, by a link of its own, or at its node
+-- the links count each pair, in whatever order: not at all where one side has no live node, without some taps at dead nodes, by a link of its own, or at its node
 pub data Count (network : Network) : List Pair → List Link → Type 0 where
   none : (links : List Link) → AllByRecursion (AddsNothing network) links → Count network [] links
   dead : (ps : List Pair) (p : Pair) (qs : List Pair) (links : List Link) → IsDead network p.out ⊎ IsDead network p.taps → Count network (ps ++ qs) links → Count network (ps ++ p ∷ qs) links
+  trimmed : (ps : List Pair) (taps : List Tap) (y : Complex) (less : List Tap) (qs : List Pair) (links : List Link) → IsTrimmed network taps less
+      → Count network (ps ++ itself less y ∷ qs) links → Count network (ps ++ itself taps y ∷ qs) links
   own : (ps : List Pair) (p : Pair) (qs : List Pair) (before : List Link) (l : Link) (after : List Link) → StandsFor network l p
       → Count network (ps ++ qs) (before ++ after) → Count network (ps ++ p ∷ qs) (before ++ l ∷ after)
   at_its_node : (ps : List Pair) (p : Pair) (qs : List Pair) (before : List Link) (l : Link) (after : List Link) (t : Tap) (l' : Link) → Raises l p t l'

@@ -6,32 +6,35 @@ use Rattle.std.specs.Option.{option_map}
 use Rattle.std.proofs.lemmas.Bool.{eq-eqb}
 use Rattle.std.proofs.lemmas.Int.{ints}
 use Rattle.std.proofs.lemmas.List.{append-nil, append_assoc}
-use Rattle.exact_algebra.specs.Ratio.{whole, times}
+use Rattle.exact_algebra.specs.Ratio.{Ratio, whole, times, difference}
 use Rattle.exact_algebra.specs.Complex.{Complex, complex_numbers, complex_difference, complex_over, real}
 use Rattle.exact_algebra.proofs.Complexes.{complex_field}
 use Rattle.exact_algebra.proofs.Reader.{reads, ring, linear, weigh, none_left}
 use Rattle.complex_interval.specs.Ends.{Ends, Encloses, mul_ends}
-use Rattle.complex_interval.specs.Rectangles.{Rectangle, EnclosesComplex}
+use Rattle.complex_interval.specs.Rectangles.{Rectangle, EnclosesComplex, sub_rectangles}
 use Rattle.complex_interval.proofs.RectangleLaws.{add_encloses_rectangle, sub_encloses_rectangle, scale_encloses_rectangle}
 use Rattle.complex_interval.proofs.Held.{mul_encloses}
 use Rattle.network_theory.specs.Order.{Order, fraction}
-use Rattle.network_theory.specs.Branch.{Tap, Law, Series, Shunt, Coupled3, Coupling, Branch}
-use Rattle.network_theory.specs.Network.{Network, IsUncoupled, HasPlace, IsGroup, IsGrouped, done, alone as uncoupled_alone, group}
+use Rattle.network_theory.specs.Branch.{Tap, Law, Series, Shunt, Coupled3, Coupling, SameCoupling, Branch}
+use Rattle.network_theory.specs.Network.{Network, IsUncoupled, IsGroup, IsGrouped, done, alone as uncoupled_alone, group}
 use Rattle.network_theory.specs.Between.{TapUpTo, LawUpTo, BranchUpTo}
 use Rattle.network_theory.specs.Live.{Live, HasLiveNode}
-use Rattle.network_theory.specs.Admittance.{Part, Alone, Group, IsAdmittance, alone, IsSplit, end, one, three, EachLivePart}
+use Rattle.network_theory.specs.Admittance.{Part, Alone, Group, IsAdmittance, IsGroupAdmittance, alone, group as with_group, IsSplit, end, one, three, EachLivePart}
 use Rattle.network_theory.specs.Nodal.{IsDistinct, ListsLive}
+use Rattle.network_theory.proofs.More.{up_to}
 use Rattle.network_theory.proofs.Numbers.{R}
 use Rattle.network_theory.proofs.Carried.{IsAmong}
+use Rattle.network_theory.proofs.Couplings.{coupling_next}
 use Rattle.network_theory.proofs.Bridge.{contains_among, among_contains}
 use Rattle.plain_elimination.specs.Matrix.{nought_rectangle}
 use Rattle.middle_inverse.specs.Inverse.{point_ends, middle_of, middle_point}
 use Rattle.certified_inverse.proofs.Law.{low_held}
-use Rattle.admittance_box.specs.Addends.{LawEnds, PlacedTap, TapPair, law_between, taps_between, pair_between, pairs_with, tap_pairs, has_place}
+use Rattle.admittance_box.specs.Addends.{LawEnds, PlacedTap, TapPair, law_between, taps_between, pair_between, pairs_with, tap_pairs, has_place, place_in_group}
+use Rattle.admittance_box.specs.BoxMatrix.{law_rectangle}
 use Rattle.admittance_box.specs.Places.{place_of}
 use Rattle.admittance_box.specs.Steps.{◌>>=◌}
 use Rattle.admittance_box.proofs.HeldEntries.{some_suc}
-use Rattle.admittance_box.proofs.HeldMatrices.{law_held}
+use Rattle.admittance_box.proofs.HeldMatrices.{law_held, place_alone, place_of_group}
 use Rattle.admittance_box.proofs.HeldPairs.{HoldsTap, taps_hold, along, scaled-is}
 use Rattle.admittance_box.proofs.Laws.{nought_held}
 use Rattle.admittance_box.proofs.LivePlaces.{place-among}
@@ -39,26 +42,22 @@ use Rattle.admittance_box.proofs.Ranges.{one_encloses}
 use Rattle.admittance_box.proofs.Steps.{bind-some}
 use Rattle.branchwise_laws.specs.Link.{Link, admittance, AtLive}
 use Rattle.branchwise_laws.specs.Reach.{at_node}
-use Rattle.branchwise_laws.specs.Pairs.{Pair, pair, itself, nine_pairs, IsPaired, end as no_pairs, alone as alone_pair, group as group_pairs, IsDead, Raises, AddsNothing, Count, dead, own, at_its_node}
+use Rattle.branchwise_laws.specs.Pairs.{Pair, pair, itself, nine_pairs, opposed, four_pairs, apart_law, common_law, IsEven, IsPaired, end as no_pairs, alone as alone_pair, group as group_pairs, even as even_pairs, IsDead, Raises, AddsNothing, Count, dead, trimmed, own, at_its_node}
 use Rattle.branchwise_laws.specs.Places.{NodesFirst}
 use Rattle.branchwise_laws.specs.Bounds.{EachAt}
 use Rattle.branchwise_laws.proofs.Each.{each_map}
+use Rattle.branchwise_laws.proofs.Even.{even_matrix, even_admitted}
 use Rattle.branchwise_laws.proofs.Identity.{all_among}
-use Rattle.branchwise_test.specs.Drops.{LiveBranch, DropEnds, node_tap, node_drops, counted, with_branch, with_branches, live_branch, live_branches}
+use Rattle.middle_inverse.specs.Lists.{each}
+use Rattle.branchwise_test.specs.Drops.{LiveBranch, DropEnds, node_tap, node_drops, counted, with_branch, with_branches, live_branch, opposed_tap, branch_with, four_branches, live_group, group_if_live, first_live, live_branches}
+use Rattle.branchwise_test.proofs.Even.{even_values, HasResistance, resistance_known, same_admitted}
+use Rattle.branchwise_test.proofs.Four.{PhaseTaps, phase_taps, both_taps, opposed_taps, four_after}
 use Rattle.branchwise_test.proofs.Zips.{zip_end}
 open complex_numbers use {◌≈◌, nought, unit, ◌⊕◌, ◌⊗◌, minus}
 open complex_field use {same, back, next}
 
 same_value : {X : Type 0} (a b : X) → Some a ≡ Some b → a ≡ b
 same_value a b e = cc
-
--- a coupled branch has no law of its own
-no_law_between : (s : ℕ) (place : ℕ) (c : Coupling) (l u : Law) → LawUpTo l (Coupled3 place c) → law_between s l u ≡ None
-no_law_between s place c (Series r k m x xc) u p = absurd p
-no_law_between s place c (Shunt b) u p = absurd p
-no_law_between s place c (Coupled3 q d) (Series r k m x xc) p = refl
-no_law_between s place c (Coupled3 q d) (Shunt b) p = refl
-no_law_between s place c (Coupled3 q d) (Coupled3 q' d') p = refl
 
 -- two taps or more have two pairs or more
 two_pairs : (s : ℕ) (t u : PlacedTap) (taps : List PlacedTap) (pairs : List TapPair) → tap_pairs s (t ∷ u ∷ taps) (t ∷ u ∷ taps) ≡ Some pairs → (p : TapPair) × (q : TapPair) × (more : List TapPair) × (pairs ≡ p ∷ q ∷ more)
@@ -436,17 +435,160 @@ module _ (s : ℕ) (ordering : List ℕ) (network : Network) (listed : ListsLive
             at (suc (suc zero)) l e v = none_live c dc (subst (HasLiveNode network) (sym e) v)
             at (suc (suc (suc j))) l e v = absurd (omega arith)
 
-    -- a coupled branch with a live node leaves no live branches
-    coupled_dead : (l c b : Branch) (place : ℕ) → BranchUpTo l b → HasPlace b place → (rest : Option (List LiveBranch)) (branches : List LiveBranch)
-        → (if has_place ordering l.taps then live_branch s ordering l c >>= (λ o. rest >>= (λ os. Some (o ∷ os))) else rest) ≡ Some branches → IsDead network b.taps × (rest ≡ Some branches)
-    coupled_dead l c b place p has rest branches e = go (has_place ordering l.taps) refl (law_between s l.law c.law) (no_law_between s place has.values l.law c.law (subst (LawUpTo l.law) has.law p.law)) e
+    -- ---- an even group
+    -- a law's admittance, whatever its rectangle
+    abbrev HoldsLaw : LawEnds → Complex → Type 0
+    HoldsLaw law y = (a : Rectangle) → law_rectangle s ends law ≡ Some a → EnclosesComplex s a y
+
+    -- a branch of the four, by its taps in full
+    part_step : (law : LawEnds) (y : Complex) → HoldsLaw law y → (full : List Tap) (its_taps : List PlacedTap) → PhaseTaps network s ordering listed full its_taps → (lb : LiveBranch) → branch_with s law its_taps ≡ Some lb
+        → (drops after : List DropEnds) → with_branch s ends lb drops ≡ Some after → (ps : List Pair) (links : List Link) → Count network ps links → HoldDrops drops links → NodesFirst ordering links → Counted ps (itself full y) after
+    part_step law y has full its_taps taps lb e drops after w ps links count held first =
+        let (pairs, e5, n5) = bind-some (tap_pairs s its_taps its_taps) (λ pairs. Some (record { law = law; taps = its_taps; pairs = pairs })) lb e in
+        let is : record { law = law; taps = its_taps; pairs = pairs } ≡ lb = same_value _ _ n5 in
+        let w' : with_branch s ends (record { law = law; taps = its_taps; pairs = pairs }) drops ≡ Some after = subst (λ b. with_branch s ends b drops ≡ Some after) (sym is) w in
+        let (admittance, e3, n3) = bind-some _ _ after w' in
+        let (rest, e4, n4) = bind-some _ _ after n3 in
+        let m = middle_number s admittance in
+        let hm = middle_held s admittance in
+        let hr = sub_encloses_rectangle s admittance (middle_point admittance) rest y m (has admittance e3) hm e4 in
+        let less = branch_counted (middle_point admittance) rest m (complex_difference y m) y (ring R (y ∷ m ∷ []) (search reads depth 40 fits 4000) none_left) hm hr ps its_taps pairs taps.less taps.held e5 drops after links n4 count held first in
+        record { links = less.links; count = trimmed ps full y taps.less [] less.links taps.trimmed less.count; held = less.held; first = less.first }
+
+    record EvenStep (a b c : Branch) (values : Coupling) (ps : List Pair) (after : List DropEnds) : Type 0 where
+      y1 : Complex
+      y0 : Complex
+      apart : IsAdmittance h (apart_law values) y1
+      common : IsAdmittance h (common_law values) y0
+      known : HasResistance values.k values.m h
+      links : List Link
+      count : Count network (ps ++ four_pairs a b c y1 y0) links
+      held : HoldDrops after links
+      first : NodesFirst ordering links
+
+    -- the four, one after another
+    four_step : (a b c : Branch) (values : Coupling) (xs ys zs : List PlacedTap) → PhaseTaps network s ordering listed a.taps xs → PhaseTaps network s ordering listed b.taps ys → PhaseTaps network s ordering listed c.taps zs
+        → (four : List LiveBranch) → four_branches s values xs ys zs ≡ Some four → (drops after : List DropEnds) → with_branches s ends four drops ≡ Some after
+        → (ps : List Pair) (links : List Link) → Count network ps links → HoldDrops drops links → NodesFirst ordering links → EvenStep a b c values ps after
+    four_step a b c values xs ys zs ta tb tc four e drops after w ps links count held first =
+        let (apart, e1, n1) = bind-some _ _ four e in
+        let (common, e2, n2) = bind-some _ _ four n1 in
+        let (less_ys, e3, n3) = bind-some _ _ four n2 in
+        let (less_zs, e4, n4) = bind-some _ _ four n3 in
+        let (ab, e5, n5) = bind-some _ _ four n4 in
+        let (bc, e6, n6) = bind-some _ _ four n5 in
+        let (ac, e7, n7) = bind-some _ _ four n6 in
+        let (sum, e8, n8) = bind-some _ _ four n7 in
+        let is : ab ∷ bc ∷ ac ∷ sum ∷ [] ≡ four = same_value _ _ n8 in
+        by_steps apart common less_ys less_zs ab bc ac sum e1 e2 e3 e4 e5 e6 e7 e8 (subst (λ f. with_branches s ends f drops ≡ Some after) (sym is) w)
       where
-        go : (t : Bool) → has_place ordering l.taps ≡ t → (law : Option LawEnds) → law ≡ None
-            → (if t then (law >>= (λ x. taps_between s ordering l.taps c.taps >>= (λ taps. tap_pairs s taps taps >>= (λ pairs. Some (record { law = x; taps = taps; pairs = pairs }))))) >>= (λ o. rest >>= (λ os. Some (o ∷ os))) else rest) ≡ Some branches
-            → IsDead network b.taps × (rest ≡ Some branches)
-        go true k (Some law) n m = absurd cc
-        go true k None n m = absurd cc
-        go false k law n m = (all_dead l.taps b.taps p.taps k, m)
+        by_steps : (apart common : LawEnds) (less_ys less_zs : List PlacedTap) (ab bc ac sum : LiveBranch) → law_between s (apart_law values) (apart_law values) ≡ Some apart → law_between s (common_law values) (common_law values) ≡ Some common
+            → each opposed_tap ys ≡ Some less_ys → each opposed_tap zs ≡ Some less_zs → branch_with s apart (xs ++ less_ys) ≡ Some ab → branch_with s apart (ys ++ less_zs) ≡ Some bc → branch_with s apart (xs ++ less_zs) ≡ Some ac
+            → branch_with s common (xs ++ ys ++ zs) ≡ Some sum → with_branches s ends (ab ∷ bc ∷ ac ∷ sum ∷ []) drops ≡ Some after → EvenStep a b c values ps after
+        by_steps apart common less_ys less_zs ab bc ac sum e1 e2 e3 e4 e5 e6 e7 e8 w =
+            let (d1, w1, v1) = bind-some (with_branch s ends ab drops) (with_branches s ends (bc ∷ ac ∷ sum ∷ [])) after w in
+            let (d2, w2, v2) = bind-some (with_branch s ends bc d1) (with_branches s ends (ac ∷ sum ∷ [])) after v1 in
+            let (d3, w3, v3) = bind-some (with_branch s ends ac d2) (with_branches s ends (sum ∷ [])) after v2 in
+            let (d4, w4, v4) = bind-some (with_branch s ends sum d3) (with_branches s ends []) after v3 in
+            let is : d4 ≡ after = same_value _ _ v4 in
+            let (r1, r1-is) = rectangle_of_branch apart (xs ++ less_ys) ab e5 drops d1 w1 in
+            let (r0, r0-is) = rectangle_of_branch common (xs ++ ys ++ zs) sum e8 d3 d4 w4 in
+            let (y1, i1, h1) = law_held s ends h ho (apart_law values) (apart_law values) (apart_law values) apart r1 (itself_up _ _ _ _ _) (itself_up _ _ _ _ _) e1 r1-is in
+            let (y0, i0, h0) = law_held s ends h ho (common_law values) (common_law values) (common_law values) common r0 (itself_up _ _ _ _ _) (itself_up _ _ _ _ _) e2 r0-is in
+            let to = λ (law : LawEnds) (y : Complex) (r : Rectangle) (k : law_rectangle s ends law ≡ Some r) (has : EnclosesComplex s r y) (r' : Rectangle) (k' : law_rectangle s ends law ≡ Some r'). subst (λ q. EnclosesComplex s q y) (same_value r r' (sym k ∙ k')) has in
+            let tb' = opposed_taps network s ordering listed b.taps ys less_ys tb e3 in
+            let tc' = opposed_taps network s ordering listed c.taps zs less_zs tc e4 in
+            let both = both_taps network s ordering listed in
+            let c1 = part_step apart y1 (to apart y1 r1 r1-is h1) (a.taps ++ opposed b.taps) (xs ++ less_ys) (both a.taps (opposed b.taps) xs less_ys ta tb') ab e5 drops d1 w1 ps links count held first in
+            let c2 = part_step apart y1 (to apart y1 r1 r1-is h1) (b.taps ++ opposed c.taps) (ys ++ less_zs) (both b.taps (opposed c.taps) ys less_zs tb tc') bc e6 d1 d2 w2 _ c1.links c1.count c1.held c1.first in
+            let c3 = part_step apart y1 (to apart y1 r1 r1-is h1) (a.taps ++ opposed c.taps) (xs ++ less_zs) (both a.taps (opposed c.taps) xs less_zs ta tc') ac e7 d2 d3 w3 _ c2.links c2.count c2.held c2.first in
+            let c4 = part_step common y0 (to common y0 r0 r0-is h0) (a.taps ++ b.taps ++ c.taps) (xs ++ ys ++ zs) (both (a.taps ++ b.taps) c.taps (xs ++ ys) zs (both a.taps b.taps xs ys ta tb) tc) sum e8 d3 d4 w4 _ c3.links c3.count c3.held c3.first in
+            record {
+              y1 = y1;
+              y0 = y0;
+              apart = i1;
+              common = i0;
+              known = resistance_known s (times (whole (pos 3)) (difference values.self_r values.mutual_r)) values.k values.m (times (whole (pos 3)) (difference values.self_x values.x_ab)) (whole (pos 0)) apart ends r1 h ho e1 r1-is;
+              links = c4.links;
+              count = subst (λ qs. Count network qs c4.links) (four_after ps (itself (a.taps ++ opposed b.taps) y1) (itself (b.taps ++ opposed c.taps) y1) (itself (a.taps ++ opposed c.taps) y1) (itself (a.taps ++ b.taps ++ c.taps) y0)) c4.count;
+              held = subst (λ l. HoldDrops l c4.links) is c4.held;
+              first = c4.first;
+            }
+          where
+            itself_up : (r k m x xc : Ratio) → LawUpTo (Series r k m x xc) (Series r k m x xc)
+            itself_up r k m x xc = (up_to r, up_to k, up_to m, up_to x, up_to xc)
+
+            rectangle_of_branch : (law : LawEnds) (its_taps : List PlacedTap) (lb : LiveBranch) → branch_with s law its_taps ≡ Some lb → (drops after : List DropEnds) → with_branch s ends lb drops ≡ Some after → (r : Rectangle) × (law_rectangle s ends law ≡ Some r)
+            rectangle_of_branch law its_taps lb e drops after w =
+                let (pairs, e5, n5) = bind-some (tap_pairs s its_taps its_taps) (λ pairs. Some (record { law = law; taps = its_taps; pairs = pairs })) lb e in
+                let is : record { law = law; taps = its_taps; pairs = pairs } ≡ lb = same_value _ _ n5 in
+                let w' : with_branch s ends (record { law = law; taps = its_taps; pairs = pairs }) drops ≡ Some after = subst (λ b. with_branch s ends b drops ≡ Some after) (sym is) w in
+                let (admittance, e3, n3) = bind-some (law_rectangle s ends law) (λ y. sub_rectangles y (middle_point y) >>= (λ rest. counted s (middle_point y) rest its_taps pairs drops)) after w' in
+                (admittance, e3)
+
+    -- an even group before others
+    even_more : (a b c : Branch) (bs : List Branch) (ps : List Pair) (final : List DropEnds) (g : IsGroup a b c) → AllByRecursion (λ o. o.group ≢ a.group) bs → (values : Coupling) → IsEven values → SameCoupling g.first.values values
+        → (mid : List DropEnds) (here : EvenStep a b c values ps mid) → HeldDrops bs (ps ++ four_pairs a b c here.y1 here.y0) final → HeldDrops (a ∷ b ∷ c ∷ bs) ps final
+    even_more a b c bs ps final g apart values even_values same_values mid here more = record {
+      parts = Group a b c Y ∷ more.parts;
+      split = three a b c Y bs more.parts g apart more.split;
+      live = (
+        λ o k v. with_group a b c Y g (same_admitted h values here.known g.first.values g.second.values g.third.values Y same_values
+            (coupling_next _ _ _ g.equal_second same_values) (coupling_next _ _ _ g.equal_third same_values) admitted),
+        more.live,
+      );
+      pairs = four_pairs a b c here.y1 here.y0 ++ more.pairs;
+      paired = even_pairs a b c Y values here.y1 here.y0 more.parts more.pairs admitted even_values here.apart here.common more.paired;
+      links = more.links;
+      count = subst (λ qs. Count network qs more.links) (append_assoc ps (four_pairs a b c here.y1 here.y0) more.pairs) more.count;
+      held = more.held;
+      first = more.first;
+    }
+      where
+        Y : ℕ → ℕ → Complex
+        Y = even_matrix here.y1 here.y0
+
+        admitted : IsGroupAdmittance h values values values Y
+        admitted = even_admitted h values here.y1 here.y0 even_values here.apart here.common
+
+    -- ---- lists of live branches
+    with_append : (bs cs : List LiveBranch) (drops final : List DropEnds) → with_branches s ends (bs ++ cs) drops ≡ Some final → (mid : List DropEnds) × (with_branches s ends bs drops ≡ Some mid) × (with_branches s ends cs mid ≡ Some final)
+    with_append [] cs drops final w = (drops, refl, w)
+    with_append (b ∷ bs) cs drops final w =
+        let (after, w1, v1) = bind-some (with_branch s ends b drops) (with_branches s ends (bs ++ cs)) final w in
+        let (mid, w2, v2) = with_append bs cs after final v1 in
+        (mid, go (with_branch s ends b drops) after mid w1 w2, v2)
+      where
+        go : (o : Option (List DropEnds)) (after mid : List DropEnds) → o ≡ Some after → with_branches s ends bs after ≡ Some mid → (o >>= with_branches s ends bs) ≡ Some mid
+        go (Some d) after mid e k = let is : after ≡ d = cc in subst (λ x. with_branches s ends bs x ≡ Some mid) is k
+        go None after mid e k = absurd cc
+
+    record Joined (here : Option (List LiveBranch)) (rest : Option (List LiveBranch)) (branches : List LiveBranch) : Type 0 where
+      first : List LiveBranch
+      first_is : here ≡ Some first
+      more : List LiveBranch
+      more_is : rest ≡ Some more
+      all_are : first ++ more ≡ branches
+
+    joined_are : (here rest : Option (List LiveBranch)) (branches : List LiveBranch) → (here >>= (λ x. rest >>= (λ y. Some (x ++ y)))) ≡ Some branches → Joined here rest branches
+    joined_are here rest branches e =
+        let (first, e1, n1) = bind-some here (λ x. rest >>= (λ y. Some (x ++ y))) branches e in
+        let (more, e2, n2) = bind-some rest (λ y. Some (first ++ y)) branches n1 in
+        record { first = first; first_is = e1; more = more; more_is = e2; all_are = same_value _ _ n2 }
+
+    -- a further branch of a group adds none
+    skipped : (place : Option ℕ) (k : ℕ) → place ≡ Some (suc k) → (a b : Branch) (xs bs : List Branch) (rest : Option (List LiveBranch)) (branches : List LiveBranch)
+        → (first_live s ordering place a xs b bs >>= (λ x. rest >>= (λ y. Some (x ++ y)))) ≡ Some branches → rest ≡ Some branches
+    skipped None k e a b xs bs rest branches m = absurd cc
+    skipped (Some zero) k e a b xs bs rest branches m = absurd cc
+    skipped (Some (suc j)) k e a b xs bs rest branches m =
+        let join = joined_are (Some []) rest branches m in
+        let none : [] ≡ join.first = same_value _ _ join.first_is in
+        let is : join.more ≡ branches = subst (λ l. l ++ join.more ≡ branches) (sym none) join.all_are in
+        subst (λ l. rest ≡ Some l) is join.more_is
+
+    none_of_three : (t u v : Bool) → (t || u || v) ≡ false → (t ≡ false) × (u ≡ false) × (v ≡ false)
+    none_of_three t u v e = grind arith
 
     pub branches_held : (ls hs bs : List Branch) → AllZip BranchUpTo ls bs → AllZip BranchUpTo bs hs → IsGrouped bs → (branches : List LiveBranch) → live_branches s ordering ls hs ≡ Some branches
         → (drops final : List DropEnds) → with_branches s ends branches drops ≡ Some final → (ps : List Pair) (links : List Link) → Count network ps links → HoldDrops drops links → NodesFirst ordering links → HeldDrops bs ps final
@@ -459,24 +601,30 @@ module _ (s : ℕ) (ordering : List ℕ) (network : Network) (listed : ListsLive
     branches_held [] hs L p q (uncoupled_alone b bs u rest) branches e drops final w ps links count held first = absurd p
     branches_held (l ∷ ls) [] L p q (uncoupled_alone b bs u rest) branches e drops final w ps links count held first = absurd q
     branches_held (l ∷ ls) (c ∷ hs) L p q (uncoupled_alone b bs u rest) branches e drops final w ps links count held first =
-        go (has_place ordering l.taps) refl e (λ branches' e' drops' w' ps' links' count' held' first'. branches_held ls hs bs p.1 q.1 rest branches' e' drops' final w' ps' links' count' held' first')
+        let j = joined_are (first_live s ordering (place_in_group l.law) l ls c hs) (live_branches s ordering ls hs) branches e in
+        let (mid, w1, w2) = with_append j.first j.more drops final (subst (λ x. with_branches s ends x drops ≡ Some final) (sym j.all_are) w) in
+        at_first (place_in_group l.law) (place_alone l b p.0 u) j.first j.first_is mid w1
+        (λ ps' links' count' held' first'. branches_held ls hs bs p.1 q.1 rest j.more j.more_is mid final w2 ps' links' count' held' first')
       where
-        go : (t : Bool) → has_place ordering l.taps ≡ t
-            → (if t then live_branch s ordering l c >>= (λ o. live_branches s ordering ls hs >>= (λ os. Some (o ∷ os))) else live_branches s ordering ls hs) ≡ Some branches
-            → ((branches' : List LiveBranch) → live_branches s ordering ls hs ≡ Some branches' → (drops' : List DropEnds) → with_branches s ends branches' drops' ≡ Some final
-            → (ps' : List Pair) (links' : List Link) → Count network ps' links' → HoldDrops drops' links' → NodesFirst ordering links' → HeldDrops bs ps' final) → HeldDrops (b ∷ bs) ps final
-        go true k m more =
-            let (lb, e1, n1) = bind-some _ _ branches m in
-            let (rest, e2, n2) = bind-some _ _ branches n1 in
-            let is : lb ∷ rest ≡ branches = cc in
-            let w' : with_branches s ends (lb ∷ rest) drops ≡ Some final = subst (λ l. with_branches s ends l drops ≡ Some final) (sym is) w in
-            let (mid, w1, w2) = bind-some _ _ final w' in
-            let here = live_step l c b p.0 q.0 lb e1 drops mid w1 ps links count held first in
-            one_more b bs ps final here.y u (λ v. here.admitted) (more rest e2 mid w2 (ps ++ pair b b here.y ∷ []) here.more.links here.more.count here.more.held here.more.first)
-        go false k m more =
-            let dead_taps = all_dead l.taps b.taps p.0.taps k in
-            let here = dead_counted ps (pair b b nought) drops links dead_taps count held first in
-            one_more b bs ps final nought u (λ v. absurd (none_live b dead_taps v)) (more branches m drops w (ps ++ pair b b nought ∷ []) here.links here.count here.held here.first)
+        at_first : (place : Option ℕ) → place ≡ None → (here : List LiveBranch) → first_live s ordering place l ls c hs ≡ Some here → (mid : List DropEnds) → with_branches s ends here drops ≡ Some mid
+            → ((ps' : List Pair) (links' : List Link) → Count network ps' links' → HoldDrops mid links' → NodesFirst ordering links' → HeldDrops bs ps' final) → HeldDrops (b ∷ bs) ps final
+        at_first (Some k) n here f mid v more = absurd cc
+        at_first None n here f mid v more = go (has_place ordering l.taps) refl f
+          where
+            go : (t : Bool) → has_place ordering l.taps ≡ t → (if t then live_branch s ordering l c >>= (λ o. Some (o ∷ [])) else Some []) ≡ Some here → HeldDrops (b ∷ bs) ps final
+            go true k m =
+                let (lb, e1, n1) = bind-some (live_branch s ordering l c) (λ o. Some (o ∷ [])) here m in
+                let is : lb ∷ [] ≡ here = same_value _ _ n1 in
+                let (after, v1, v2) = bind-some (with_branch s ends lb drops) (with_branches s ends []) mid (subst (λ x. with_branches s ends x drops ≡ Some mid) (sym is) v) in
+                let same : after ≡ mid = same_value _ _ v2 in
+                let step = live_step l c b p.0 q.0 lb e1 drops mid (subst (λ x. with_branch s ends lb drops ≡ Some x) same v1) ps links count held first in
+                one_more b bs ps final step.y u (λ v. step.admitted) (more (ps ++ pair b b step.y ∷ []) step.more.links step.more.count step.more.held step.more.first)
+            go false k m =
+                let none : [] ≡ here = same_value _ _ m in
+                let same : drops ≡ mid = same_value _ _ (subst (λ x. with_branches s ends x drops ≡ Some mid) (sym none) v) in
+                let dead_taps = all_dead l.taps b.taps p.0.taps k in
+                let step = dead_counted ps (pair b b nought) drops links dead_taps count held first in
+                one_more b bs ps final nought u (λ v. absurd (none_live b dead_taps v)) (more (ps ++ pair b b nought ∷ []) step.links step.count (subst (λ l. HoldDrops l step.links) same step.held) step.first)
     branches_held [] hs L p q (group a b c bs g apart rest) branches e drops final w ps links count held first = absurd p
     branches_held (la ∷ []) hs L p q (group a b c bs g apart rest) branches e drops final w ps links count held first = absurd p.1
     branches_held (la ∷ lb ∷ []) hs L p q (group a b c bs g apart rest) branches e drops final w ps links count held first = absurd p.1.1
@@ -484,7 +632,30 @@ module _ (s : ℕ) (ordering : List ℕ) (network : Network) (listed : ListsLive
     branches_held (la ∷ lb ∷ lc ∷ ls) (ua ∷ []) L p q (group a b c bs g apart rest) branches e drops final w ps links count held first = absurd q.1
     branches_held (la ∷ lb ∷ lc ∷ ls) (ua ∷ ub ∷ []) L p q (group a b c bs g apart rest) branches e drops final w ps links count held first = absurd q.1.1
     branches_held (la ∷ lb ∷ lc ∷ ls) (ua ∷ ub ∷ uc ∷ hs) L p q (group a b c bs g apart rest) branches e drops final w ps links count held first =
-        let (da, ea) = coupled_dead la ua a 0 p.0 g.first (live_branches s ordering (lb ∷ lc ∷ ls) (ub ∷ uc ∷ hs)) branches e in
-        let (db, eb) = coupled_dead lb ub b 1 p.1.0 g.second (live_branches s ordering (lc ∷ ls) (uc ∷ hs)) branches ea in
-        let (dc, ec) = coupled_dead lc uc c 2 p.1.1.0 g.third (live_branches s ordering ls hs) branches eb in
-        group_more a b c bs ps final g apart da db dc (branches_held ls hs bs p.1.1.1 q.1.1.1 rest branches ec drops final w ps links count held first)
+        let j = joined_are (first_live s ordering (place_in_group la.law) la (lb ∷ lc ∷ ls) ua (ub ∷ uc ∷ hs)) (live_branches s ordering (lb ∷ lc ∷ ls) (ub ∷ uc ∷ hs)) branches e in
+        let second = skipped (place_in_group lb.law) 0 (place_of_group lb b 1 p.1.0 g.second) lb ub (lc ∷ ls) (uc ∷ hs) (live_branches s ordering (lc ∷ ls) (uc ∷ hs)) j.more j.more_is in
+        let third = skipped (place_in_group lc.law) 1 (place_of_group lc c 2 p.1.1.0 g.third) lc uc ls hs (live_branches s ordering ls hs) j.more second in
+        let (mid, w1, w2) = with_append j.first j.more drops final (subst (λ x. with_branches s ends x drops ≡ Some final) (sym j.all_are) w) in
+        let here : group_if_live s ordering la lb lc ua ub uc ≡ Some j.first = subst (λ o. first_live s ordering o la (lb ∷ lc ∷ ls) ua (ub ∷ uc ∷ hs) ≡ Some j.first) (place_of_group la a 0 p.0 g.first) j.first_is in
+        at_group j.first here mid w1 (λ ps' links' count' held' first'. branches_held ls hs bs p.1.1.1 q.1.1.1 rest j.more third mid final w2 ps' links' count' held' first')
+      where
+        at_group : (here : List LiveBranch) → group_if_live s ordering la lb lc ua ub uc ≡ Some here → (mid : List DropEnds) → with_branches s ends here drops ≡ Some mid
+            → ((ps' : List Pair) (links' : List Link) → Count network ps' links' → HoldDrops mid links' → NodesFirst ordering links' → HeldDrops bs ps' final) → HeldDrops (a ∷ b ∷ c ∷ bs) ps final
+        at_group here f mid v more = go (has_place ordering la.taps || has_place ordering lb.taps || has_place ordering lc.taps) refl f
+          where
+            go : (t : Bool) → (has_place ordering la.taps || has_place ordering lb.taps || has_place ordering lc.taps) ≡ t → (if t then live_group s ordering la lb lc ua ub uc else Some []) ≡ Some here → HeldDrops (a ∷ b ∷ c ∷ bs) ps final
+            go true k m =
+                let (values, e1, n1) = bind-some _ _ here m in
+                let (xs, e2, n2) = bind-some _ _ here n1 in
+                let (ys, e3, n3) = bind-some _ _ here n2 in
+                let (zs, e4, n4) = bind-some _ _ here n3 in
+                let (even, same_values) = even_values la.law ua.law a.law 0 values g.first.values p.0.law q.0.law g.first.law e1 in
+                let step = four_step a b c values xs ys zs (phase_taps network s ordering listed la ua a xs p.0 q.0 e2) (phase_taps network s ordering listed lb ub b ys p.1.0 q.1.0 e3) (phase_taps network s ordering listed lc uc c zs p.1.1.0 q.1.1.0 e4) here n4
+                drops mid v ps links count held first in
+                even_more a b c bs ps final g apart values even same_values mid step (more (ps ++ four_pairs a b c step.y1 step.y0) step.links step.count step.held step.first)
+            go false k m =
+                let none : [] ≡ here = same_value _ _ m in
+                let same : drops ≡ mid = same_value _ _ (subst (λ x. with_branches s ends x drops ≡ Some mid) (sym none) v) in
+                let (ea, eb, ec) = none_of_three (has_place ordering la.taps) (has_place ordering lb.taps) (has_place ordering lc.taps) k in
+                group_more a b c bs ps final g apart (all_dead la.taps a.taps p.0.taps ea) (all_dead lb.taps b.taps p.1.0.taps eb) (all_dead lc.taps c.taps p.1.1.0.taps ec)
+                (more ps links count (subst (λ l. HoldDrops l links) same held) first)

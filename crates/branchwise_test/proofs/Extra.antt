@@ -1,5 +1,5 @@
 -- An estimate over a box holds with an extra susceptance at the driven node.
-use Rattle.std.proofs.Common.{◌≡◌, ◌≢◌, ◌∙◌, ℕ, ◌-◌, ◌<◌, Bool, true, false, List, [], ◌∷◌, ◌++◌, length, refl, sym, subst, ap, arith, pos, Option, Some, None, Ok}
+use Rattle.std.proofs.Common.{◌≡◌, ◌≢◌, ◌∙◌, ℕ, zero, suc, ◌-◌, ◌<◌, append_assoc, Bool, true, false, List, [], ◌∷◌, ◌++◌, length, refl, sym, subst, ap, arith, pos, Option, Some, None, Ok}
 use Rattle.std.specs.Prelude.{int_lt, if◌then◌else◌}
 use Rattle.std.specs.List.{AllZip, AllByRecursion}
 use Rattle.std.specs.Option.{option_map}
@@ -12,7 +12,7 @@ use Rattle.network_theory.specs.Extra.{shunt_at, with_shunt}
 use Rattle.network_theory.proofs.Extra as E
 use Rattle.network_theory.proofs.More.{up_to}
 use Rattle.network_theory.proofs.Phases.{live_is_node}
-use Rattle.admittance_box.specs.Addends.{OfShunt, tap_pairs, has_place}
+use Rattle.admittance_box.specs.Addends.{OfShunt, tap_pairs, has_place, place_in_group}
 use Rattle.admittance_box.specs.HeldMatrix.{CanAssemble}
 use Rattle.admittance_box.specs.Orders.{order_ends}
 use Rattle.admittance_box.specs.Places.{place_of}
@@ -20,7 +20,7 @@ use Rattle.admittance_box.specs.Steps.{◌>>=◌}
 use Rattle.admittance_box.proofs.LivePairs.{live_up}
 use Rattle.admittance_box.proofs.NodeOrderings.{is_last, lists_live, order_along}
 use Rattle.admittance_box.proofs.Steps.{bind-some}
-use Rattle.branchwise_test.specs.Drops.{DropEnds, LiveBranch, node_drops, live_branch, live_branches, extra_branch}
+use Rattle.branchwise_test.specs.Drops.{DropEnds, LiveBranch, node_drops, live_branch, first_live, live_branches, extra_branch}
 use Rattle.branchwise_test.specs.Enclosed.{near_of, impedance_near_with}
 use Rattle.branchwise_test.specs.Holds.{IsNear, ImpedanceIsNear}
 use Rattle.branchwise_test.proofs.Zips.{zip_end, each_at}
@@ -84,6 +84,16 @@ module _ (driven : ℕ) (e : Ratio) where
         go (Some b) None n = absurd cc
         go (Some b) (Some one) n = n
 
+    -- what is live at a branch stays so with further branches at the end
+    still_first : (place : Option ℕ) (l c : Branch) (ls hs ms ns : List Branch) (here : List LiveBranch) → first_live s ordering place l ls c hs ≡ Some here → first_live s ordering place l (ls ++ ms) c (hs ++ ns) ≡ Some here
+    still_first None l c ls hs ms ns here e = e
+    still_first (Some (suc k)) l c ls hs ms ns here e = e
+    still_first (Some zero) l c [] hs ms ns here e = absurd cc
+    still_first (Some zero) l c (b ∷ []) hs ms ns here e = absurd cc
+    still_first (Some zero) l c (b ∷ d ∷ ls) [] ms ns here e = absurd cc
+    still_first (Some zero) l c (b ∷ d ∷ ls) (b' ∷ []) ms ns here e = absurd cc
+    still_first (Some zero) l c (b ∷ d ∷ ls) (b' ∷ d' ∷ hs) ms ns here e = e
+
     live_shunted : (ls hs : List Branch) → AllZip BranchUpTo ls hs → (branches : List LiveBranch) → live_branches s ordering ls hs ≡ Some branches → (extra : LiveBranch) → extra_branch s k e ≡ Some extra
         → live_branches s ordering (ls ++ shunt_at driven e ∷ []) (hs ++ shunt_at driven e ∷ []) ≡ Some (branches ++ extra ∷ [])
     live_shunted [] [] z branches m extra q =
@@ -93,25 +103,24 @@ module _ (driven : ℕ) (e : Ratio) where
         here : has_place ordering (shunt_at driven e).taps ≡ true
         here = rw place refl
 
-        last : (t : Bool) → t ≡ true → (o : Option LiveBranch) → o ≡ Some extra → (if t then o >>= (λ l. Some (l ∷ [])) else Some []) ≡ Some (extra ∷ [])
+        last : (t : Bool) → t ≡ true → (o : Option LiveBranch) → o ≡ Some extra → ((if t then o >>= (λ l. Some (l ∷ [])) else Some []) >>= (λ h. Some (h ++ []))) ≡ Some (extra ∷ [])
         last true t (Some l) n = let is : l ≡ extra = cc in ap (λ b. Some (b ∷ [])) is
         last true t None n = absurd cc
         last false t o n = absurd cc
     live_shunted [] (c ∷ hs) z branches m extra q = absurd z
     live_shunted (l ∷ ls) [] z branches m extra q = absurd z
-    live_shunted (l ∷ ls) (c ∷ hs) z branches m extra q = go (has_place ordering l.taps) refl m (λ rest r. live_shunted ls hs z.1 rest r extra q)
+    live_shunted (l ∷ ls) (c ∷ hs) z branches m extra q =
+        both (first_live s ordering (place_in_group l.law) l ls c hs) (first_live s ordering (place_in_group l.law) l (ls ++ shunt_at driven e ∷ []) c (hs ++ shunt_at driven e ∷ []))
+        (live_branches s ordering ls hs) (live_branches s ordering (ls ++ shunt_at driven e ∷ []) (hs ++ shunt_at driven e ∷ [])) m
+        (λ here. still_first (place_in_group l.law) l c ls hs (shunt_at driven e ∷ []) (shunt_at driven e ∷ []) here) (λ rest r. live_shunted ls hs z.1 rest r extra q)
       where
-        both : (o : Option LiveBranch) (r r' : Option (List LiveBranch)) → (o >>= (λ x. r >>= (λ xs. Some (x ∷ xs)))) ≡ Some branches → ((rest : List LiveBranch) → r ≡ Some rest → r' ≡ Some (rest ++ extra ∷ []))
-            → (o >>= (λ x. r' >>= (λ xs. Some (x ∷ xs)))) ≡ Some (branches ++ extra ∷ [])
-        both None r r' m more = absurd cc
-        both (Some x) None r' m more = absurd cc
-        both (Some x) (Some xs) r' m more = let is : x ∷ xs ≡ branches = cc in rw (more xs refl) (ap (λ bs. Some (bs ++ extra ∷ [])) is)
-
-        go : (t : Bool) → has_place ordering l.taps ≡ t → (if t then live_branch s ordering l c >>= (λ o. live_branches s ordering ls hs >>= (λ os. Some (o ∷ os))) else live_branches s ordering ls hs) ≡ Some branches
-            → ((rest : List LiveBranch) → live_branches s ordering ls hs ≡ Some rest → live_branches s ordering (ls ++ shunt_at driven e ∷ []) (hs ++ shunt_at driven e ∷ []) ≡ Some (rest ++ extra ∷ []))
-            → live_branches s ordering (l ∷ ls ++ shunt_at driven e ∷ []) (c ∷ hs ++ shunt_at driven e ∷ []) ≡ Some (branches ++ extra ∷ [])
-        go true t m more = rw t (both (live_branch s ordering l c) (live_branches s ordering ls hs) (live_branches s ordering (ls ++ shunt_at driven e ∷ []) (hs ++ shunt_at driven e ∷ [])) m more)
-        go false t m more = rw t (more branches m)
+        both : (o o' r r' : Option (List LiveBranch)) → (o >>= (λ x. r >>= (λ xs. Some (x ++ xs)))) ≡ Some branches → ((here : List LiveBranch) → o ≡ Some here → o' ≡ Some here) → ((rest : List LiveBranch) → r ≡ Some rest → r' ≡ Some (rest ++ extra ∷ []))
+            → (o' >>= (λ x. r' >>= (λ xs. Some (x ++ xs)))) ≡ Some (branches ++ extra ∷ [])
+        both None o' r r' m same more = absurd cc
+        both (Some x) o' None r' m same more = absurd cc
+        both (Some x) o' (Some xs) r' m same more =
+            let is : x ++ xs ≡ branches = cc in
+            rw (same x refl, more xs refl) (ap Some (sym (append_assoc x xs (extra ∷ [])) ∙ ap (λ bs. bs ++ extra ∷ []) is))
 
 -- ---- the whole
 pub impedance_is_near : (s : ℕ) → ImpedanceIsNear s

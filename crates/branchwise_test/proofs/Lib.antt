@@ -1,5 +1,7 @@
 pub mod Zips
 pub mod Rows
+pub mod Even
+pub mod Four
 pub mod Branches
 pub mod Middles
 pub mod Counts

@@ -2,8 +2,9 @@ use Rattle.std.proofs.Common.{◌≡◌, ◌∙◌, ◌∷◌, length, map, take
 use Rattle.std.proofs.lemmas.List.{length-map}
 use Rattle.drop_bench.specs.Drops.{drop_ends, bare}
 use Rattle.branchwise_bench.specs.Layout.{own_drops}
-use Rattle.branchwise_bench.specs.Live.{live_ends}
-use Rattle.branchwise_bench.proofs.Counting.{no_more, first_more, all_taken, next_fits, next_laid}
+use Rattle.branchwise_live.specs.Live.{live_ends}
+use Rattle.branchwise_live.proofs.Joining.{first_more}
+use Rattle.branchwise_bench.proofs.Counting.{no_more, all_taken, next_fits, next_laid}
 use Rattle.branchwise_bench.proofs.count.+count_branches.Goals as goal
 
 pub count_branches-requires : goal.count_branches-requires

@@ -4,7 +4,7 @@ use Rattle.std.specs.Option.{option_map}
 use Rattle.exact_fraction.specs.Fraction.{ratio_of}
 use Rattle.branchwise_test.specs.Drops.{with_branches}
 use Rattle.drop_bench.specs.Drops.{drop_ends}
-use Rattle.branchwise_bench.specs.Live.{live_ends}
+use Rattle.branchwise_live.specs.Live.{live_ends}
 use Rattle.branchwise_bench.proofs.Counting.{cleared_bare, cleared_rest, cleared_front, cleared_count, all_counted, none_counted}
 use Rattle.branchwise_bench.proofs.count.count_all.Goals as goal
 

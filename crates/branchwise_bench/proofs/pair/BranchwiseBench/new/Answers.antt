@@ -3,7 +3,7 @@ use Rattle.std.specs.Prelude.{Some}
 use Rattle.std.specs.Option.{option_map}
 use Rattle.network_theory.specs.Network.{Network}
 use Rattle.net_branch.specs.Exact.{exact_branch}
-use Rattle.branchwise_bench.specs.Live.{live_ends}
+use Rattle.branchwise_live.specs.Live.{live_ends}
 use Rattle.branchwise_bench.specs.Pair.{LivePair}
 use Rattle.branchwise_bench.proofs.Laid.{live_inside}
 use Rattle.branchwise_bench.proofs.Making.{all_live, none_live, pair_made}

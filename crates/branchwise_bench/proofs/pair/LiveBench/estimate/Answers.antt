@@ -5,7 +5,7 @@ use Rattle.branchwise_test.specs.Enclosed.{near_of_drops, near_of_branches}
 use Rattle.drop_bench.specs.Bench.{BenchSize}
 use Rattle.drop_bench.specs.Drops.{drop_ends, bare, IsInside}
 use Rattle.branchwise_bench.specs.Layout.{bare_nodes, own_drops, counted_all}
-use Rattle.branchwise_bench.specs.Live.{live_ends}
+use Rattle.branchwise_live.specs.Live.{live_ends}
 use Rattle.branchwise_bench.specs.Pair.{LivePair}
 use Rattle.branchwise_bench.proofs.Counting.{nodes_count}
 use Rattle.branchwise_bench.proofs.Laid.{laid_inside, near_by_count}

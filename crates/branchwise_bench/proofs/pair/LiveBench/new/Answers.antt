@@ -2,7 +2,7 @@ use Rattle.std.proofs.Common.{◌≡◌, ◌∙◌, ◌++◌, length, map, ap, a
 use Rattle.std.proofs.lemmas.List.{length-map}
 use Rattle.drop_bench.specs.Drops.{drop_ends, bare}
 use Rattle.branchwise_bench.specs.Layout.{bare_nodes, own_drops}
-use Rattle.branchwise_bench.specs.Live.{live_ends}
+use Rattle.branchwise_live.specs.Live.{live_ends}
 use Rattle.branchwise_bench.proofs.Counting.{bare_laid}
 use Rattle.branchwise_bench.proofs.pair.LiveBench.new.Goals as goal
 

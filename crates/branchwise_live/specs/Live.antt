@@ -6,7 +6,7 @@ use Rattle.admittance_box.specs.Addends.{has_place}
 use Rattle.admittance_box.specs.Intervals.{law_ends, placed_ends, pair_ends}
 use Rattle.admittance_box.specs.Steps.{◌>>=◌}
 use Rattle.branchwise_test.specs.Drops.{LiveBranch, live_branch}
-use Rattle.branchwise_bench.specs.declared.live.LiveBranchIntervals.{LiveBranchIntervals}
+use Rattle.branchwise_live.specs.declared.live.LiveBranchIntervals.{LiveBranchIntervals}
 
 -- by the ends of its numbers
 abbrev pub live_ends : {E : Type 0} → (E → Ends) → LiveBranchIntervals E → LiveBranch

@@ -1,0 +1,3 @@
+pub mod Joining
+mod Multiples
+mod Same

@@ -1,0 +1,4 @@
+pub mod Rests
+pub mod Ends
+pub mod Sums
+pub mod Same
