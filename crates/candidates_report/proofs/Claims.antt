@@ -1,5 +1,5 @@
 -- What the report on candidates claims of a study holds.
-use Rattle.std.proofs.Common.{◌≡◌, ℕ, ℤ, pos, ◌≤ℤ◌, Bool, true, false, List, [], ◌∷◌, map, refl, sym, subst}
+use Rattle.std.proofs.Common.{◌≡◌, ℕ, ◌≤◌, ◌⊎◌, inl, inr, arith, ℤ, pos, ◌≤ℤ◌, Bool, true, false, List, [], ◌∷◌, map, refl, sym, subst}
 use Rattle.std.specs.Prelude.{◌==◌, if◌then◌else◌, Option, Some, None, IfSome, IsSomeAnd}
 use Rattle.std.specs.List.{AllByRecursion}
 use Rattle.std.proofs.lemmas.Bool.{and_parts, eqb-true}
@@ -17,6 +17,7 @@ use Rattle.study_scans.proofs.Asked.{spec_in_range}
 use Rattle.study_scans.proofs.NodeOrderings.{found_order}
 use Rattle.study_scans.proofs.Sound.{scanned_whole}
 use Rattle.study_variants.specs.Sizes.{Sizing, size_row, IsSafe}
+use Rattle.study_variants.proofs.FromScratch.{boxes_from_scratch}
 use Rattle.study_variants.proofs.SizeRows.{size_holds, row_is_safe, row_size}
 use Rattle.candidates_report.specs.Claim.{HoldsOfSize, HoldsOfEntry, HoldsOfCandidate, HoldsOfCandidates}
 use Rattle.candidates_report.specs.Entries.{scan_of}
@@ -38,11 +39,23 @@ safe_size scale c q can above safe =
     let (peaks, undecided) = and_parts (row.peaks == 0) (row.undecided == 0) safe in
     row_is_safe scale c q can.spec can.whole can.ready above (eqb-true row.peaks 0 peaks) (eqb-true row.undecided 0 undecided)
 
-each_size : (study : Study) (c : Sizing) (sizes : List ℤ) → CanTry c → AllByRecursion (λ q. pos 1 ≤ℤ q) sizes → AllByRecursion (HoldsOfSize study c) sizes
-each_size study c [] can h = tt
-each_size study c (q ∷ sizes) can h = (
-  record { boxes = size_holds study.scale c q can.spec can.whole can.ready h.0; safe = safe_size study.scale c q can h.0 },
-  each_size study c sizes can h.1,
+-- intervals at a study's scale
+small_scale : (study : Study) → IsLawful study → study.scale ≤ 48
+small_scale study h = by h.scale
+  where
+    by : (study.scale ≡ 40) ⊎ (study.scale ≡ 48) → study.scale ≤ 48
+    by (inl e) = omega (arith, e)
+    by (inr e) = omega (arith, e)
+
+each_size : (study : Study) (c : Sizing) (sizes : List ℤ) → study.scale ≤ 48 → CanTry c → AllByRecursion (λ q. pos 1 ≤ℤ q) sizes → AllByRecursion (HoldsOfSize study c) sizes
+each_size study c [] small can h = tt
+each_size study c (q ∷ sizes) small can h = (
+  record {
+    boxes = size_holds study.scale c q can.spec can.whole can.ready h.0;
+    safe = safe_size study.scale c q can h.0;
+    scratch = boxes_from_scratch study.scale small c q can.whole can.ready h.0;
+  },
+  each_size study c sizes small can h.1,
 )
 
 first_size : (scale : ℕ) (c : Sizing) (sizes : List ℤ) → CanTry c → AllByRecursion (λ q. pos 1 ≤ℤ q) sizes → IfSome (first_safe (map (size_row scale c) sizes)) (IsSafe c)
@@ -69,10 +82,10 @@ can_try study networks scan sizes h are live s positive =
       };
     }
 
-entry_holds : (study : Study) (scan : ScanItem) (sizes : List ℤ) → CanTry (sizing_of study scan sizes) → AllByRecursion (λ q. pos 1 ≤ℤ q) sizes → HoldsOfEntry study scan sizes
+entry_holds : (study : Study) (scan : ScanItem) (sizes : List ℤ) → study.scale ≤ 48 → CanTry (sizing_of study scan sizes) → AllByRecursion (λ q. pos 1 ≤ℤ q) sizes → HoldsOfEntry study scan sizes
 unfolding sizes_of
-entry_holds study scan sizes can above = record {
-  each = each_size study (sizing_of study scan sizes) sizes can above;
+entry_holds study scan sizes small can above = record {
+  each = each_size study (sizing_of study scan sizes) sizes small can above;
   first = first_size study.scale (sizing_of study scan sizes) sizes can above;
 }
 
@@ -82,7 +95,7 @@ candidate_holds study networks candidate h are live k = go (scan_of study candid
     go : (o : Option ScanItem) → scan_of study candidate ≡ o → IsSomeAnd o IsOfPositive → IsSomeAnd o (λ scan. HoldsOfEntry study scan candidate.sizes)
     go None at is = absurd is
     go (Some scan) at is =
-        entry_holds study scan candidate.sizes (can_try study networks scan candidate.sizes h are live (lawful_scan study candidate scan h at) is) (sizes_above candidate.sizes k.sizes)
+        entry_holds study scan candidate.sizes (small_scale study h) (can_try study networks scan candidate.sizes h are live (lawful_scan study candidate scan h at) is) (sizes_above candidate.sizes k.sizes)
 
 all_hold : (study : Study) (networks : StudyNetworks) (candidates : List Candidate) → IsLawful study → AreNetworksOf study networks → HasLive study → AllByRecursion (IsLawfulCandidate study) candidates
     → AllByRecursion (HoldsOfCandidate study) candidates

@@ -1,4 +1,9 @@
 pub mod BandCleared
 pub mod CountedBoxes
+pub mod FromScratch
 pub mod LeftBranches
+pub mod Moved
+pub mod ShuntBranches
+pub mod ShuntRows
 pub mod SizeRows
+pub mod Walks

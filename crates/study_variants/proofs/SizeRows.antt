@@ -32,7 +32,7 @@ pub susceptance_num : (q mva : ℤ) → (susceptance_of_rating q mva).num ≡ q
 unfolding susceptance_of_rating
 susceptance_num q mva = refl
 
-above_zero : (z : ℤ) → pos 1 ≤ℤ z → int_lt (pos 0) z ≡ true
+pub above_zero : (z : ℤ) → pos 1 ≤ℤ z → int_lt (pos 0) z ≡ true
 above_zero z h = grind (arith, ints, h)
 
 -- where it is above 0, the network is scanned with one more shunt

@@ -1,3 +1,5 @@
 pub mod Kinds
 pub mod Outages
+pub mod Scratch
 pub mod Sizes
+pub mod Worked

@@ -5,6 +5,7 @@ ghost use Rattle.network_theory.specs.Live.{Live};
 ghost use Rattle.net_branch.specs.Exact.{exact_network};
 ghost use Rattle.net_branch.specs.Whole.{IsWholeNetwork};
 ghost use Rattle.band_subdivision.specs.ScanSpec.{IsScanSpec};
+ghost use Rattle.study_variants.specs.Scratch.{NoSumIsOut, scratch_row};
 ghost use Rattle.study_variants.specs.Sizes.{AreCandidatesOf, size_row, IsSafe};
 
 use crate::size_row::{SizeRow, count_boxes};
@@ -64,12 +65,14 @@ impl<E: Enclosure> Candidates<E> {
     }
 
     /// The next size with the counts of its boxes, or none where each size was given. Where none of its boxes is a peak or undecided,
-    /// at every order of the band the impedance of the network with that bank exists and is within the threshold. It takes no memory.
+    /// at every order of the band the impedance of the network with that bank exists and is within the threshold. Where no sum is out of
+    /// range, the counts are those of a scan of that network from scratch. It takes no memory.
     pub fn next_size(&mut self) -> Option<SizeRow>
         ensures row { result ≡ option_map (size_row E.SCALE self.old) (slice_get self.old.sizes self.old.given) }
         ensures none { IfNone result (self.old.given ≡ length self.old.sizes) }
         ensures given { MatchOption result (self.new ≡ self.old) (λ row. self.new ≡ record self.old { given = self.old.given + 1 }) }
         ensures safe { IfSome result (λ row. row.peaks ≡ 0 → row.undecided ≡ 0 → IsSafe self.old row.size) }
+        ensures scratch { IfSome result (λ row. NoSumIsOut E.SCALE self.old row.size → row ≡ scratch_row E.SCALE self.old row.size) }
     {
         if self.given >= self.sizes.len() {
             return None;

@@ -2,6 +2,7 @@
 #![tactic(auto)]
 
 ghost use Rattle.study_variants.specs.Outages.{OutageOfElement};
+ghost use Rattle.study_variants.specs.Worked.{WorkedBanks};
 
 mod candidates;
 mod outages;
@@ -15,4 +16,10 @@ pub use size_row::SizeRow;
 /// keeps its own.
 pub fn outage_of_element()
     ensures law { OutageOfElement }
+{}
+
+/// A bank at a node of a small network, worked by hand: added last to what elimination leaves, and first, by a scan from scratch. The two
+/// differ only where a sum is out of range.
+pub fn worked_banks()
+    ensures worked { WorkedBanks }
 {}

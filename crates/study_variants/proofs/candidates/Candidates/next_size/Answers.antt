@@ -2,6 +2,7 @@ use Rattle.std.proofs.Common.{◌≡◌, ◌∙◌, ◌+◌, ◌<◌, ◌^◌, �
 use Rattle.exact_fraction.specs.Fraction.{ratio_of}
 use Rattle.element_parts.specs.PerUnit.{susceptance_of_rating}
 use Rattle.band_subdivision.specs.Scan.{Scanning}
+use Rattle.study_variants.proofs.FromScratch.{scratch_answered}
 use Rattle.study_variants.proofs.SizeRows.{size_above, not_below, few_left, IsAnswered, answered, row_answered, safe_answered}
 use Rattle.study_variants.proofs.candidates.Candidates.next_size.Goals as goal
 use Rattle.study_variants.proofs.candidates.Candidates.next_size.Given.{Over}
@@ -37,3 +38,8 @@ pub returns-clause-safe : goal.returns-clause-safe
 returns-clause-safe g c peaks undecided =
     safe_answered g.E.Enclosure.SCALE c.self.inside.scan c.self.inside.mva c.self.inside.sizes c.self.inside.given c.index-as_slice-self.result c.count_boxes.result c.args.self.now c.self.view_is
     c.self.invariant (answer g c) peaks undecided
+
+pub returns-clause-scratch : goal.returns-clause-scratch
+returns-clause-scratch g c none =
+    scratch_answered g.E.Enclosure.SCALE c.self.inside.scan c.self.inside.mva c.self.inside.sizes c.self.inside.given c.index-as_slice-self.result c.count_boxes.result c.args.self.now g.met.E.Enclosure.small_scale
+    c.self.view_is c.self.invariant (answer g c) none
