@@ -1,9 +1,9 @@
 // Runs of `limits` over files in memory.
 use harm_io::{MemoryShelf, MemorySink};
-use harmscan_core::run;
 use std::alloc::Global;
 use std::process::Abort;
 use std::test::Fail;
+use worked_cases::answers::status_of;
 
 pub const SPECTRUM: [&str; 3] = ["limits", "study.toml", "spectrum.csv"];
 
@@ -27,26 +27,6 @@ pub fn shelf_of(alloc: Global, case: &Case<'_>) -> Result<MemoryShelf, Fail> {
         shelf.add_file("levels.csv", levels.as_bytes())?;
     }
     Ok(shelf)
-}
-
-fn strings(alloc: Global, words: &[&str]) -> Result<Vec<String>, Fail> {
-    let mut strings = Vec::new(alloc);
-    for word in words {
-        strings.push(String::from_str(alloc, word)?)?;
-    }
-    Ok(strings)
-}
-
-/// The status of a run of the words. It has no contract, so that no case is proved under what is proved of a run.
-fn status_of(
-    alloc: Global,
-    words: &[&str],
-    shelf: &mut MemoryShelf,
-    out: &mut MemorySink,
-    err: &mut MemorySink,
-) -> Result<u8, Fail> {
-    let words = strings(alloc, words)?;
-    Ok(run(alloc, &words, shelf, out, err))
 }
 
 /// Runs the words, and compares the status and the bytes on standard output and standard error.

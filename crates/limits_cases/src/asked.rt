@@ -56,15 +56,35 @@ fn shelf_but(alloc: Global, name: &str, bytes: &[u8]) -> Result<MemoryShelf, Fai
 }
 
 #[test]
-fn files_that_are_too_large(rt: HostRuntime) -> Result<(), Fail> {
-    let bytes = Vec::from_elem(rt.alloc(), b'#', 4_194_305)?;
-    let cases: [(&str, &[u8]); 3] = [
-        ("study.toml", b"harmscan: study too large\n"),
-        ("spectrum.csv", b"harmscan: spectrum too large\n"),
-        ("levels.csv", b"harmscan: levels too large\n"),
+fn files_at_the_limit(rt: HostRuntime) -> Result<(), Fail> {
+    // no document from its first byte on and no header in its first line, so that each reading is short
+    let mut bytes = Vec::from_elem(rt.alloc(), b'\n', 4_194_305)?;
+    if let Some(first) = bytes.first_mut() {
+        *first = b']';
+    }
+    let cases: [(&str, usize, &[u8]); 6] = [
+        (
+            "study.toml",
+            4_194_304,
+            b"harmscan: study refused: 1 NotToml\n",
+        ),
+        ("study.toml", 4_194_305, b"harmscan: study too large\n"),
+        (
+            "spectrum.csv",
+            4_194_304,
+            b"harmscan: spectrum refused: 1 BadHeader\n",
+        ),
+        ("spectrum.csv", 4_194_305, b"harmscan: spectrum too large\n"),
+        (
+            "levels.csv",
+            4_194_304,
+            b"harmscan: levels refused: 1 BadHeader\n",
+        ),
+        ("levels.csv", 4_194_305, b"harmscan: levels too large\n"),
     ];
-    for (name, line) in cases {
-        let mut shelf = shelf_but(rt.alloc(), name, &bytes)?;
+    for (name, size, line) in cases {
+        let file = &bytes[..bytes.len().min(size)];
+        let mut shelf = shelf_but(rt.alloc(), name, file)?;
         assert_answer(&rt, rt.alloc(), &LEVELS, &mut shelf, (2, b"", line))?;
     }
     Ok(())

@@ -6,9 +6,13 @@ mod answers;
 #[cfg(test)]
 mod asked;
 #[cfg(test)]
+mod cuts;
+#[cfg(test)]
 mod phases;
 #[cfg(test)]
 mod plant;
+#[cfg(test)]
+mod puts;
 #[cfg(test)]
 mod refused;
 #[cfg(test)]

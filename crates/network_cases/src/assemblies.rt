@@ -5,8 +5,9 @@ ghost use Rattle.net_branch.specs.declared.network.Law.TheVariants.{Series};
 ghost use Rattle.net_branch.specs.Exact.{exact_branch};
 ghost use Rattle.net_branch.specs.Whole.{IsWholeNetwork};
 
+use crate::compare::expect;
 use crate::fixtures::{
-    FOUR_HUNDREDTHS, ONE, TWO, ZERO, add, bank, coil, expect, fill, live_node, network_of, push,
+    FOUR_HUNDREDTHS, ONE, TWO, ZERO, add, bank, coil, driven_at, fill, live_node, network_of, push,
     tap, tie, two_buses,
 };
 use admittance_box::{Assembly, Fill};
@@ -28,16 +29,8 @@ const QUARTER: i64 = UNIT / 4;
 // Three times 2^20, less 8.
 const THREE_BANKS: i64 = 3_145_720 * UNIT;
 
-/// The assembly of a network that is driven at a node, which must be live.
-pub fn driven_at(alloc: Global, network: &Network, number: u32) -> Result<Assembly<Span<40>>, Fail>
-    requires { IsWholeNetwork network.now }
-{
-    let node = live_node(alloc, network, number)?;
-    Ok(Assembly::new(alloc, network, node)?)
-}
-
-// The matrix over the orders from lo to hi, or the first branch with no value there.
-fn filled(
+/// The matrix over the orders from lo to hi, or the first branch with no value there.
+pub fn filled(
     alloc: Global,
     assembly: &mut Assembly<Span<40>>,
     lo: u32,

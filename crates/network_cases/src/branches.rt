@@ -1,5 +1,6 @@
 // Branches whose admittances were worked by hand.
-use crate::fixtures::{ONE, TENTH, ZERO, expect};
+use crate::compare::expect;
+use crate::fixtures::{ONE, TENTH, ZERO};
 use admittance_box::{
     SeriesParameters, SeriesValues, order_range, resistance, series_admittance, shunt_admittance,
 };

@@ -6,8 +6,9 @@ ghost use Rattle.net_branch.specs.Exact.{exact_branch};
 ghost use Rattle.net_branch.specs.Refusal.{is_zero_law};
 ghost use Rattle.net_branch.specs.Whole.{IsWholeNetwork, AreAtNodes};
 
+use crate::compare::expect;
 use crate::fixtures::{
-    MINUS_ONE, ONE, Part, Values, ZERO, add, bank, branch_of, counts, expect, push, tap,
+    MINUS_ONE, ONE, Part, Values, ZERO, add, bank, branch_of, counts, push, tap,
 };
 use crate::live_nodes::expect_live;
 use exact_fraction::Fraction;

@@ -1,24 +1,20 @@
 // Networks of coils and banks, a table of parts each.
 ghost use Rattle.std.specs.Prelude.{◌≡◌, ◌≤◌, ◌++◌, ◌∷◌, [], IfOk, OnOk};
+ghost use Rattle.std.specs.List.{AllByRecursion};
 ghost use Rattle.network_theory.specs.Live.{Live};
 ghost use Rattle.network_theory.specs.Network.{IsUncoupled};
 ghost use Rattle.net_branch.specs.Exact.{exact_branch, exact_network};
 ghost use Rattle.net_branch.specs.Whole.{IsWholeNetwork};
 
+use admittance_box::Assembly;
+use complex_interval::Span;
 use exact_fraction::Fraction;
 use net_branch::{
     Branch, Law, NetFault, Network, NodeId, Tap, add_node, live, new_network, push_branch,
 };
 use sqlite_items::Items;
 use std::alloc::Global;
-use std::fmt::Debug;
-use std::process::Abort;
 use std::test::Fail;
-
-/// Compares what was found with what was wanted. An assertion that stands in a test costs its proof more than this call does.
-pub fn expect<T: PartialEq + Debug + Drop>(rt: &impl Abort, found: T, wanted: T, label: &str) {
-    assert_eq!(rt; found, wanted, "{label}");
-}
 
 pub const ZERO: Fraction = Fraction { num: 0, den: 1 };
 
@@ -120,7 +116,8 @@ fn taps_of(alloc: Global, part: &Part) -> Result<Items<Tap>, Fail> {
 
 /// The branch of a part.
 pub fn branch_of(alloc: Global, part: &Part) -> Result<Branch, Fail>
-    ensures { IfOk result (λ branch. IsUncoupled (exact_branch branch)) }
+    ensures uncoupled { IfOk result (λ branch. IsUncoupled (exact_branch branch)) }
+    ensures alone { IfOk result (λ branch. branch.group ≡ 0) }
 {
     Ok(Branch {
         taps: taps_of(alloc, part)?,
@@ -151,10 +148,12 @@ pub fn add(network: &mut Network) -> Result<u32, NetFault>
     Ok(add_node(network)?.number)
 }
 
-/// Adds these parts.
+/// Adds these parts, none of which is of a group.
+#[tactic(auto, using(net_branch::proofs::Wholes::each_append))]
 pub fn fill(alloc: Global, network: &mut Network, parts: &[Part]) -> Result<(), Fail>
     requires { IsWholeNetwork network.old }
-    ensures { IsWholeNetwork network.new }
+    ensures whole { IsWholeNetwork network.new }
+    ensures alone { AllByRecursion (λ b. b.group ≡ 0) network.old.branches → OnOk result (AllByRecursion (λ b. b.group ≡ 0) network.new.branches) }
 {
     for part in parts {
         push(alloc, network, branch_of(alloc, part)?)?;
@@ -162,10 +161,11 @@ pub fn fill(alloc: Global, network: &mut Network, parts: &[Part]) -> Result<(), 
     Ok(())
 }
 
-/// So many buses with these parts.
+/// So many buses with these parts, none of which is of a group.
 pub fn network_of(alloc: Global, buses: u32, parts: &[Part]) -> Result<Network, Fail>
     requires { buses ≤ 400 }
-    ensures { IfOk result IsWholeNetwork }
+    ensures whole { IfOk result IsWholeNetwork }
+    ensures alone { IfOk result (λ network. AllByRecursion (λ b. b.group ≡ 0) network.branches) }
 {
     let mut network = new_network(alloc, buses)?;
     fill(alloc, &mut network, parts)?;
@@ -196,4 +196,12 @@ pub fn live_node(alloc: Global, network: &Network, number: u32) -> Result<NodeId
     } else {
         Err("dead".into())
     }
+}
+
+/// The assembly of a network that is driven at a node, which must be live.
+pub fn driven_at(alloc: Global, network: &Network, number: u32) -> Result<Assembly<Span<40>>, Fail>
+    requires { IsWholeNetwork network.now }
+{
+    let node = live_node(alloc, network, number)?;
+    Ok(Assembly::new(alloc, network, node)?)
 }

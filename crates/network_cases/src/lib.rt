@@ -1,4 +1,5 @@
-// Networks that were worked by hand, and one of a drill: systems, branches, live nodes, admittances, matrices and scans, by the public calls.
+// Networks that were worked by hand: systems, branches, groups, live nodes, admittances and matrices, by the public calls. What they are made of
+// stands for other crates of tests too.
 #![tactic(auto)]
 
 #[cfg(test)]
@@ -8,14 +9,12 @@ mod branches;
 #[cfg(test)]
 mod building;
 #[cfg(test)]
-mod drills;
+mod compare;
+pub mod coupling;
+pub mod fixtures;
 #[cfg(test)]
-mod fixtures;
+mod groups;
 #[cfg(test)]
 mod live_nodes;
 #[cfg(test)]
-mod scans;
-#[cfg(test)]
 mod systems;
-#[cfg(test)]
-mod variants;

@@ -1,5 +1,5 @@
 // Each law is called once, at rows that meet its premises, beside the arithmetic of its conclusion.
-use crate::fixtures::expect;
+use crate::compare::expect;
 use exact_fraction::Fraction;
 use linear_laws::{Rows, elimination_step, front_of_zero_rows, injective_is_solvable};
 use std::alloc::Global;

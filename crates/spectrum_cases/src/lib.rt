@@ -8,6 +8,8 @@ mod injections;
 #[cfg(test)]
 mod levels;
 #[cfg(test)]
+mod many;
+#[cfg(test)]
 mod spectra;
 #[cfg(test)]
 mod studies;

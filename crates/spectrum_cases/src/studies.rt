@@ -1,4 +1,4 @@
-// The studies that the cases share: two buses in the sequence model, and one in the phases model.
+// The studies that the cases share: two buses in the sequence model, and one and seventy in the phases model.
 ghost use Rattle.std.specs.Prelude.{IfOk};
 ghost use Rattle.study_model.specs.Lawful.{IsLawful};
 
@@ -25,4 +25,17 @@ pub fn one_bus_of_phases(alloc: Global) -> Result<Study, Fail>
     ensures { IfOk result IsLawful }
 {
     Ok(read_study(alloc, ONE_BUS_OF_PHASES.as_bytes())?)
+}
+
+/// Seventy buses of the phases model, B0 to B69.
+pub fn seventy_buses_of_phases(alloc: Global) -> Result<Study, Fail>
+    ensures { IfOk result IsLawful }
+{
+    let header = "study = { version = 1, mva = 100, model = \"phases\" }\n";
+    let mut text = String::from_str(alloc, header)?;
+    for i in 0..70 {
+        let bus = format!(in alloc; "[[bus]]\nname = \"B{i}\"\nkv = 10\n")?;
+        text.push_str(bus.as_str())?;
+    }
+    Ok(read_study(alloc, text.as_bytes())?)
 }

@@ -1,15 +1,10 @@
 // Drills through the program.
-use crate::answers::{Answer, assert_answer};
+use crate::answers::Answer;
+use crate::compare::assert_answer;
 use harm_io::MemoryShelf;
 use std::test::Fail;
 
-/// The three rows of a drill. Another program computed the summaries: at its finest width no box of a drill is decided.
-pub const OF_7: [(u32, &str); 3] = [
-    (1, "drill,7,120\n"),
-    (2, "summary,s1,256,0,0,256,1\n"),
-    (3, "end,4\n"),
-];
-
+// Another program computed the summaries: at its finest width no box of a drill is decided.
 const REPORTS: [(&str, &str); 2] = [
     ("0", "drill,0,120\nsummary,s1,256,0,0,256,1\nend,4\n"),
     ("7", "drill,7,120\nsummary,s1,256,0,0,256,1\nend,4\n"),

@@ -1,6 +1,6 @@
 // The studies of examples/, which a check after the gate compares with those files, and their reports. Those by elimination with one
 // threshold were computed by another program too (tools/oracle).
-use crate::answers::{assert_long_report, assert_reports};
+use crate::compare::{assert_long_report, assert_reports};
 use std::test::Fail;
 
 const SAFE: &str =

@@ -1,13 +1,12 @@
-// Worked cases of the command line: words and files, and all that the program answers them; and of the shelves and sinks, in memory and over
-// the files and streams of the system.
+// Worked cases of the command line: words and files, and all that the program answers them. How the words are run, and studies that other crates of
+// tests run too, stand for those.
 #![tactic(auto)]
 
-#[cfg(test)]
-mod answers;
+pub mod answers;
 #[cfg(test)]
 mod branchwise;
 #[cfg(test)]
-mod curve_refusals;
+mod compare;
 #[cfg(test)]
 mod curves;
 #[cfg(test)]
@@ -15,37 +14,18 @@ mod drills;
 #[cfg(test)]
 mod examples;
 #[cfg(test)]
-mod faults;
-#[cfg(test)]
-mod in_memory;
+mod extremes;
 #[cfg(test)]
 mod networks;
 #[cfg(test)]
 mod phases;
 #[cfg(test)]
-mod puts;
-#[cfg(test)]
-mod readings;
-#[cfg(test)]
-mod real;
-#[cfg(test)]
 mod recipes;
 #[cfg(test)]
-mod refusals;
-#[cfg(test)]
-mod refused;
-#[cfg(test)]
-mod refusing;
-#[cfg(test)]
 mod reports;
-#[cfg(test)]
-mod studies;
-#[cfg(test)]
-mod torn;
+pub mod studies;
 #[cfg(test)]
 mod variant_recipes;
-#[cfg(test)]
-mod variant_refusals;
 #[cfg(test)]
 mod variants;
 #[cfg(test)]

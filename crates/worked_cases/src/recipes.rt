@@ -1,6 +1,6 @@
 // The studies of docs/recipes.md, which a check after the gate compares with the files of examples/ and with that page, and their reports,
 // which another program computed (tools/oracle).
-use crate::answers::assert_reports;
+use crate::compare::assert_reports;
 use std::test::Fail;
 
 /// examples/moved.toml.

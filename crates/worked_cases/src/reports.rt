@@ -1,7 +1,6 @@
 // Reports, through the program.
-use crate::answers::{
-    Answer, SCAN, assert_answer, assert_long_report, assert_reports, joined, shelf_with,
-};
+use crate::answers::{Answer, SCAN, joined, shelf_with};
+use crate::compare::{assert_answer, assert_long_report, assert_reports};
 use crate::{branchwise, curves, networks, phases, studies};
 use harm_io::SteadyShelf;
 use std::test::Fail;

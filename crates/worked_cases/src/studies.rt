@@ -668,3 +668,70 @@ box,14,5.750000,6.000000,cleared,-,-
 summary,s2,14,8,6,0,1
 end,3
 ";
+
+/// A source with resistance and a band in which a bank may resonate with it.
+pub const NO_BANK: &str = r#"study = { version = 1, mva = "100" }
+bus = [{ name = "B1", kv = "10" }]
+source = [{ name = "S1", bus = "B1", r = "0.1", x = "1" }]
+scan = [{ name = "s1", bus = "B1", from = "3", to = "7", threshold = "20", finest = "0.125", locate = "0.5" }]
+"#;
+
+/// Two sizes of a bank there.
+pub const TWO_SIZES: &str = "candidate = [{ scan = \"s1\", sizes = [\"4\", \"0.5\"] }]\n";
+
+pub const TWO_SIZES_LINES: [(u32, &str); 5] = [
+    (1, "candidate,s1,B1,3.000000,7.000000,20.000000\n"),
+    (2, "size,1,4.000000,2,4,0\n"),
+    (3, "size,2,0.500000,1,0,0\n"),
+    (4, "first,s1,0.500000\n"),
+    (5, "end,0\n"),
+];
+
+/// A source whose reactance alone stays below a threshold by a twentieth.
+pub const TOLERANT: &str = r#"study = { version = 1, mva = "100" }
+bus = [{ name = "B1", kv = "10" }]
+source = [{ name = "S1", bus = "B1", r = "0", x = "1" }]
+scan = [{ name = "s1", bus = "B1", from = "1", to = "10", threshold = "10.5", finest = "9" }]
+tolerance = [{ element = "S1", permille = 100 }]
+"#;
+
+/// Within a tenth it doesn't.
+pub const TOLERANT_LINES: [(u32, &str); 6] = [
+    (1, "tolerance,1\n"),
+    (
+        2,
+        "scan,s1,B1,positive,1.000000,10.000000,10.500000,elimination\n",
+    ),
+    (3, "box,1,1.000000,10.000000,undecided,-,-\n"),
+    (
+        4,
+        "region,1,1.000000,10.000000,50.000000,500.000000,0,1,-,-\n",
+    ),
+    (5, "summary,s1,1,0,0,1,1\n"),
+    (6, "end,4\n"),
+];
+
+/// A source and a bank, each of which feeds the bus alone.
+pub const TWO_OUTAGES: &str = r#"study = { version = 1, mva = "100" }
+bus = [{ name = "B1", kv = "10" }]
+source = [{ name = "S1", bus = "B1", r = "0.1", x = "1" }]
+bank = [{ name = "K1", bus = "B1", q = "4" }]
+scan = [{ name = "s1", bus = "B1", from = "3", to = "7", threshold = "20", finest = "0.125", locate = "0.5" }]
+outage = [{ element = "K1" }, { element = "S1" }]
+"#;
+
+pub const TWO_OUTAGES_LINES: [(u32, &str); 6] = [
+    (1, "outage,1,K1,fed\n"),
+    (2, "case,1,s1,1,1,0,0,-,-\n"),
+    (3, "outage,2,S1,fed\n"),
+    (4, "case,2,s1,1,1,0,0,-,-\n"),
+    (5, "envelope,s1,2,2,0,0\n"),
+    (6, "end,0\n"),
+];
+
+/// The three rows of the drill 7. Another program computed the summary.
+pub const DRILL_7_LINES: [(u32, &str); 3] = [
+    (1, "drill,7,120\n"),
+    (2, "summary,s1,256,0,0,256,1\n"),
+    (3, "end,4\n"),
+];

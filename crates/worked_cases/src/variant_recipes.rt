@@ -1,6 +1,7 @@
 // Studies of docs/recipes.md on candidate banks, tolerances and outages, which a check after the gate compares with the files of examples/ and
 // with that page, and their reports, which another program computed (tools/oracle).
-use crate::variants::{CANDIDATES, OUTAGES, TOLERANCE, assert_reported};
+use crate::answers::{CANDIDATES, OUTAGES, TOLERANCE};
+use crate::variants::assert_reported;
 use std::test::Fail;
 
 /// examples/candidates.toml.

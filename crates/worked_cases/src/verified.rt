@@ -1,11 +1,10 @@
 // Reports that `verify` judges, through the program: those of scans, and changed ones, by the line that has to be named.
-use crate::answers::{Answer, assert_answer, joined, shelf_with};
+use crate::answers::{Answer, VERIFY, joined, shelf_with, shelf_with_report};
+use crate::compare::assert_answer;
 use crate::{curves, recipes, studies};
 use std::alloc::Global;
 use std::process::Abort;
 use std::test::Fail;
-
-const VERIFY: [&str; 3] = ["verify", "study.toml", "report.csv"];
 
 /// What a report is answered: the row where it is right, or why it is refused.
 type Verdict<'a> = Result<&'a str, &'a str>;
@@ -15,11 +14,10 @@ fn assert_verdict(
     rt: &impl Abort,
     alloc: Global,
     study: &str,
-    report: &str,
+    report: &[u8],
     verdict: Verdict<'_>,
 ) -> Result<(), Fail> {
-    let mut shelf = shelf_with(alloc, study.as_bytes())?;
-    shelf.add_file("report.csv", report.as_bytes())?;
+    let mut shelf = shelf_with_report(alloc, study, report)?;
     match verdict {
         Ok(row) => {
             let out = joined(alloc, &[row, "\n"])?;
@@ -70,7 +68,7 @@ fn reports_of_scans(rt: HostRuntime) -> Result<(), Fail> {
         (recipes::MOVED, recipes::MOVED_REPORT, "verified,2,2"),
     ];
     for (study, report, row) in cases {
-        assert_verdict(&rt, rt.alloc(), study, report, Ok(row))?;
+        assert_verdict(&rt, rt.alloc(), study, report.as_bytes(), Ok(row))?;
     }
     Ok(())
 }
@@ -92,7 +90,7 @@ fn assert_changed(
 ) -> Result<(), Fail> {
     for (old, new, verdict) in cases {
         let text = changed(alloc, report, old, new)?;
-        assert_verdict(rt, alloc, study, &text, *verdict)?;
+        assert_verdict(rt, alloc, study, text.as_bytes(), *verdict)?;
     }
     Ok(())
 }
@@ -171,7 +169,7 @@ fn reports_of_other_studies(rt: HostRuntime) -> Result<(), Fail> {
         (studies::NO_SCAN, "", "1 BadRow 1"),
     ];
     for (study, report, fault) in cases {
-        assert_verdict(&rt, rt.alloc(), study, report, Err(fault))?;
+        assert_verdict(&rt, rt.alloc(), study, report.as_bytes(), Err(fault))?;
     }
     Ok(())
 }
@@ -184,8 +182,7 @@ fn assert_failing(
     call: u32,
     answer: &Answer<'_>,
 ) -> Result<(), Fail> {
-    let mut shelf = shelf_with(alloc, study.as_bytes())?;
-    shelf.add_file("report.csv", b"end,0\n")?;
+    let mut shelf = shelf_with_report(alloc, study, b"end,0\n")?;
     shelf.fail_call(call)?;
     assert_answer(rt, alloc, &VERIFY, &mut shelf, answer)
 }
@@ -210,14 +207,22 @@ fn each_fetch_that_fails(rt: HostRuntime) -> Result<(), Fail> {
 }
 
 #[test]
-fn a_report_that_is_too_large(rt: HostRuntime) -> Result<(), Fail> {
-    let bytes = Vec::from_elem(rt.alloc(), b'#', 4_194_305)?;
-    let mut shelf = shelf_with(rt.alloc(), studies::NO_SCAN.as_bytes())?;
-    shelf.add_file("report.csv", &bytes)?;
-    let answer = Answer {
-        status: 2,
-        out: "",
-        err: "harmscan: report too large\n",
-    };
-    assert_answer(&rt, rt.alloc(), &VERIFY, &mut shelf, &answer)
+fn reports_at_the_limit(rt: HostRuntime) -> Result<(), Fail> {
+    // no row in its first line, so that the reading is short
+    let bytes = Vec::from_elem(rt.alloc(), b'\n', 4_194_305)?;
+    let cases = [
+        (4_194_304, "harmscan: report refused: 1 BadRow 1\n"),
+        (4_194_305, "harmscan: report too large\n"),
+    ];
+    for (size, err) in cases {
+        let report = &bytes[..bytes.len().min(size)];
+        let mut shelf = shelf_with_report(rt.alloc(), studies::NO_SCAN, report)?;
+        let answer = Answer {
+            status: 2,
+            out: "",
+            err,
+        };
+        assert_answer(&rt, rt.alloc(), &VERIFY, &mut shelf, &answer)?;
+    }
+    Ok(())
 }

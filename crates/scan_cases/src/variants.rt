@@ -4,13 +4,14 @@ ghost use Rattle.network_theory.specs.Network.{IsUncoupled};
 ghost use Rattle.net_branch.specs.Exact.{exact_branch};
 ghost use Rattle.net_branch.specs.Whole.{IsWholeNetwork};
 
-use crate::fixtures::{
-    FOUR_HUNDREDTHS, Part, TENTH, bank, branch_of, coil, expect, live_node, push,
-};
+use crate::compare::expect;
 use crate::scans::{BESIDE_A_BANK, WITH_A_BANK, WITHOUT_A_BANK, expect_scan, one_bus, spec_of};
 use complex_interval::{Enclosure, Span};
 use fixed_decimal::Decimal;
 use net_branch::{Branch, Network, new_network};
+use network_cases::fixtures::{
+    FOUR_HUNDREDTHS, Part, TENTH, bank, branch_of, coil, live_node, push,
+};
 use std::alloc::Global;
 use std::process::Abort;
 use std::test::Fail;

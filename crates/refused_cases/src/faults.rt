@@ -1,15 +1,14 @@
 // Words without a reading, and faults of files and of standard error, through the program.
-use crate::answers::{
-    Answer, SCAN, assert_answer, assert_status, assert_text, shelf_with, status_of,
-};
+use crate::compare::{assert_answer, assert_status, assert_text};
 use crate::refusing::RefusingSink;
-use crate::studies;
 use harm_io::{MemoryShelf, MemorySink, Shelf, Sink, SteadySink};
 use harmscan_core::run_collected;
 use std::alloc::Global;
 use std::io;
 use std::process::Abort;
 use std::test::Fail;
+use worked_cases::answers::{Answer, SCAN, shelf_with, status_of};
+use worked_cases::studies;
 
 const WORDS_REFUSED: Answer<'static> = Answer {
     status: 1,
@@ -169,10 +168,16 @@ fn assert_both_unheard(
 
 #[test]
 fn standard_error_changes_no_status(rt: HostRuntime) -> Result<(), Fail> {
-    let cases: [(&[&str], u8); 3] = [
+    let cases: [(&[&str], u8); 9] = [
         (&["help"], 1),
         (&["scan", "study.toml"], 2),
         (&["scan", "absent.toml"], 5),
+        (&["candidates", "study.toml"], 2),
+        (&["tolerance", "study.toml"], 2),
+        (&["outages", "absent.toml"], 5),
+        (&["limits", "study.toml", "spectrum.csv"], 2),
+        (&["verify", "study.toml", "report.csv"], 2),
+        (&["verify", "absent.toml", "report.csv"], 5),
     ];
     for (words, status) in cases {
         assert_both_unheard(&rt, rt.alloc(), words, status)?;

@@ -1,9 +1,10 @@
 // Studies that are refused, through the program.
-use crate::answers::{Answer, SCAN, assert_answer, joined, shelf_with};
+use crate::compare::assert_answer;
 use crate::{curve_refusals, refusals, variant_refusals};
 use std::alloc::Global;
 use std::process::Abort;
 use std::test::Fail;
+use worked_cases::answers::{Answer, SCAN, joined, shelf_with};
 
 #[test]
 fn no_toml(rt: HostRuntime) -> Result<(), Fail> {

@@ -1,5 +1,4 @@
 // Studies as the call of the reader gives them.
-use crate::answers::joined;
 use std::alloc::Global;
 use std::process::Abort;
 use std::test::Fail;
@@ -8,6 +7,7 @@ use study_model::{
     StudyModel, Tolerance,
 };
 use study_reader::read_study;
+use worked_cases::answers::joined;
 
 const STUDY: &str = "[study]\nversion = 1\nmva = \"100\"\n";
 

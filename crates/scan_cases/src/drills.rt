@@ -2,14 +2,14 @@
 ghost use Rattle.std.specs.Prelude.{IfOk};
 ghost use Rattle.net_branch.specs.Whole.{IsWholeNetwork};
 
-use crate::assemblies::driven_at;
-use crate::fixtures::expect;
+use crate::compare::expect;
 use crate::scans::{Asked, Row, expect_boxes, scan_of};
 use admittance_box::{Assembly, Fill};
 use band_subdivision::Scan;
 use complex_interval::Span;
 use drill_study::drill_study;
 use net_branch::Network;
+use network_cases::fixtures::driven_at;
 use plain_elimination::{Matrix, reduce_to_last};
 use scan_report::Kind;
 use sequence_network::networks_of;

@@ -4,14 +4,15 @@ ghost use Rattle.net_branch.specs.Whole.{IsWholeNetwork};
 ghost use Rattle.study_model.specs.Curve.{curve_points, IsLawfulCurve, Spans};
 ghost use Rattle.band_subdivision.specs.ScanSpec.{IsScanSpec};
 
-use crate::fixtures::{
-    FOUR_HUNDREDTHS, ONE, TENTH, ZERO, bank, coil, expect, live_node, network_of, tie, two_buses,
-};
+use crate::compare::expect;
 use band_subdivision::{Scan, ScanSpec, Tested};
 use complex_interval::{Enclosure, Span};
 use exact_fraction::Fraction;
 use fixed_decimal::Decimal;
 use net_branch::Network;
+use network_cases::fixtures::{
+    FOUR_HUNDREDTHS, ONE, TENTH, ZERO, bank, coil, live_node, network_of, tie, two_buses,
+};
 use scan_report::Kind;
 use std::alloc::Global;
 use std::process::Abort;
@@ -101,6 +102,12 @@ pub fn scan_of<E: Enclosure>(
     let spec = spec_of(asked)?;
     let node = live_node(alloc, network, number)?;
     Ok(Scan::new(alloc, network, node, spec)?)
+}
+
+/// The scan of a node that isn't live.
+pub fn unfed_scan<E: Enclosure>(alloc: Global, asked: Asked) -> Result<Scan<E>, Fail> {
+    let spec = spec_of(asked)?;
+    Ok(Scan::unfed(alloc, spec)?)
 }
 
 // The scan between a network and itself, at a live node.

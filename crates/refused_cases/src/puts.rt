@@ -1,14 +1,34 @@
 // Reports of which a line is not taken, through the program.
-use crate::answers::{SCAN, assert_status, assert_text, shelf_with, status_of};
+use crate::compare::{assert_status, assert_text};
 use crate::refusing::RefusingSink;
-use crate::variants::{OUTAGES, TOLERANCE};
-use crate::{drills, studies, variants};
-use harm_io::{MemoryShelf, MemorySink, SteadySink};
+use harm_io::{MemoryShelf, MemorySink, Sink, SteadySink};
 use std::alloc::Global;
 use std::process::Abort;
 use std::test::Fail;
+use worked_cases::answers::{
+    CANDIDATES, OUTAGES, SCAN, TOLERANCE, VERIFY, joined, shelf_with, shelf_with_report, status_of,
+};
+use worked_cases::studies;
 
-/// Runs the words where the put of that number keeps so many bytes and fails: `out` takes what is expected.
+/// Runs the words where the put of that number keeps so many bytes and fails: `out` takes what is expected, whatever `err` does.
+fn assert_front<E: Sink>(
+    rt: &impl Abort,
+    alloc: Global,
+    words: &[&str],
+    shelf: &mut MemoryShelf,
+    failing: (u32, u32),
+    expected: &[u8],
+    err: &mut E,
+) -> Result<(), Fail> {
+    let mut out = MemorySink::new(alloc);
+    out.fail_call(failing.0, failing.1)?;
+    let status = status_of(alloc, words, shelf, &mut out, err)?;
+    assert_text(rt, "standard output", out.taken(), expected);
+    assert_status(rt, status, 6);
+    Ok(())
+}
+
+/// The same with the line on standard error, and where memory is wanting for it.
 fn assert_taken(
     rt: &impl Abort,
     alloc: Global,
@@ -17,19 +37,16 @@ fn assert_taken(
     failing: (u32, u32),
     expected: &[u8],
 ) -> Result<(), Fail> {
-    let mut out = MemorySink::new(alloc);
-    out.fail_call(failing.0, failing.1)?;
     let mut err = SteadySink::new(alloc);
-    let status = status_of(alloc, words, shelf, &mut out, &mut err)?;
-    assert_text(rt, "standard output", out.taken(), expected);
+    assert_front(rt, alloc, words, shelf, failing, expected, &mut err)?;
     assert_text(
         rt,
         "standard error",
         err.taken(),
         b"harmscan: cannot write report\n",
     );
-    assert_status(rt, status, 6);
-    Ok(())
+    let mut unheard = RefusingSink::new();
+    assert_front(rt, alloc, words, shelf, failing, expected, &mut unheard)
 }
 
 /// The put of a line keeps nothing, a part or all of it and fails: the lines before it and that front were taken.
@@ -78,22 +95,37 @@ fn each_put_that_fails(rt: HostRuntime) -> Result<(), Fail> {
 }
 
 #[test]
+fn each_put_on_candidates_that_fails(rt: HostRuntime) -> Result<(), Fail> {
+    let study = joined(rt.alloc(), &[studies::NO_BANK, studies::TWO_SIZES])?;
+    let lines = &studies::TWO_SIZES_LINES;
+    assert_each_put(&rt, rt.alloc(), &CANDIDATES, &study, lines)
+}
+
+#[test]
+fn the_put_of_a_verified_report_that_fails(rt: HostRuntime) -> Result<(), Fail> {
+    let report = studies::RESONANCE_REPORT.as_bytes();
+    let mut shelf = shelf_with_report(rt.alloc(), studies::RESONANCE, report)?;
+    let line = (1, "verified,1,6\n");
+    assert_line(&rt, rt.alloc(), &VERIFY, &mut shelf, b"", line)
+}
+
+#[test]
 fn each_put_on_tolerances_that_fails(rt: HostRuntime) -> Result<(), Fail> {
-    let lines = &variants::TOLERANT_LINES;
-    assert_each_put(&rt, rt.alloc(), &TOLERANCE, variants::TOLERANT, lines)
+    let lines = &studies::TOLERANT_LINES;
+    assert_each_put(&rt, rt.alloc(), &TOLERANCE, studies::TOLERANT, lines)
 }
 
 #[test]
 fn each_put_on_outages_that_fails(rt: HostRuntime) -> Result<(), Fail> {
-    let lines = &variants::TWO_OUTAGES_LINES;
-    assert_each_put(&rt, rt.alloc(), &OUTAGES, variants::TWO_OUTAGES, lines)
+    let lines = &studies::TWO_OUTAGES_LINES;
+    assert_each_put(&rt, rt.alloc(), &OUTAGES, studies::TWO_OUTAGES, lines)
 }
 
 #[test]
 fn each_put_of_a_drill_that_fails(rt: HostRuntime) -> Result<(), Fail> {
     let mut shelf = MemoryShelf::new(rt.alloc());
     let mut lines = Vec::new(rt.alloc());
-    for (call, line) in drills::OF_7 {
+    for (call, line) in studies::DRILL_7_LINES {
         // the put keeps nothing of its line
         assert_taken(
             &rt,

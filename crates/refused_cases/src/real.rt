@@ -6,11 +6,11 @@ use std::io::Write;
 use std::rt::Files;
 use std::test::Fail;
 
-const FOLDER: &str = "worked_cases_files";
+const FOLDER: &str = "refused_cases_files";
 
-const LONG: &str = "worked_cases_files/long";
+const LONG: &str = "refused_cases_files/long";
 
-const SHORT: &str = "worked_cases_files/short";
+const SHORT: &str = "refused_cases_files/short";
 
 /// Puts a text, piece by piece.
 fn put_pieces<W: Write + Drop>(mut sink: StreamSink<W>, pieces: &[&[u8]]) -> bool {
@@ -32,7 +32,7 @@ type Seen = Result<(usize, u8), FetchFault>;
 
 /// Fetches that are made one after another. The long file takes more than one reading.
 const FETCHES: [(&str, u32, Seen); 7] = [
-    ("worked_cases_files/absent", 9, Err(FetchFault::Failed)),
+    ("refused_cases_files/absent", 9, Err(FetchFault::Failed)),
     (FOLDER, 9, Err(FetchFault::Failed)),
     (LONG, 5000, Ok((5000, b'y'))),
     (LONG, 4999, Err(FetchFault::TooLarge(5000))),

@@ -4,7 +4,7 @@ use Rattle.network_theory.specs.Network.{IsGrouped}
 use Rattle.net_branch.specs.Exact.{exact_branch}
 use Rattle.net_branch.specs.Whole.{IsGrouping}
 use Rattle.net_branch.proofs.Wholes.{whole_growing, group_first, group_second, group_third, grouped_grouping}
-use Rattle.network_cases.proofs.live_nodes.push_group.Goals as goal
+use Rattle.network_cases.proofs.coupling.push_group.Goals as goal
 
 pub push_branch-requires-clause-growing : goal.push_branch-requires-clause-growing
 push_branch-requires-clause-growing c = whole_growing c.args.network.now c.requires.whole
