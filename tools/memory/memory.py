@@ -1,8 +1,10 @@
 #!/usr/bin/env python3
 """Runs the built program once for each growth of its memory, and refuses that one.
 
-usage: memory.py PROGRAM [--workers W] WORD..
+usage: memory.py PROGRAM [--workers W] [WORD..]
 
+The words are those of a run. Without words it tries one run of each command, on studies of examples/ and a report that it has the program
+write. For each it prints a line.
 A small library between the program and the C library's allocator counts the calls that ask for memory, and answers one of them that there
 is none. What is asked of each run: where that call came, the status is 7, standard error has the one line `harmscan: out of memory`, and
 standard output a front of the whole report, which ends with a line; or all is as in a run that refuses nothing, as where a library had
@@ -17,6 +19,8 @@ import pathlib
 import subprocess
 import sys
 import tempfile
+
+TOP = pathlib.Path(__file__).resolve().parents[2]
 
 LIBRARY = r"""
 #define _GNU_SOURCE
@@ -88,31 +92,50 @@ def fault(answer, whole):
     return None
 
 
+def trial(words, built, pool):
+    """Refuses each growth of a run in turn. Answers whether each kept the rules."""
+    whole = run(words, built, 0)
+    numbers, broken, refused, without = itertools.count(1), 0, 0, 0
+    while True:
+        batch = list(itertools.islice(numbers, 256))
+        answers = list(pool.map(lambda number: run(words, built, number), batch))
+        for number, answer in zip(batch, answers):
+            rule = fault(answer, whole)
+            refused += answer[3]
+            without += answer[3] and answer[:3] == whole[:3]
+            if rule:
+                broken += 1
+                print(f"growth {number}: {rule}")
+        if not all(answer[3] for answer in answers):
+            break
+    print(f"{refused} growths refused in turn, {without} of them not needed, {broken} runs broke a rule; the run itself has status {whole[0]}: {' '.join(words[1:])}", flush=True)
+    return refused and not broken
+
+
+def runs(program, folder):
+    """The words of a run of each command."""
+    def example(name):
+        return str(TOP / "examples" / name)
+
+    plant = [example("plant.toml"), example("plant/spectrum.csv"), example("plant/levels.csv")]
+    report = folder / "report.csv"
+    report.write_bytes(subprocess.run([program, "scan", example("zero.toml")], capture_output=True).stdout)
+    return [["scan", example("safe.toml")], ["scan", example("feeder.toml")], ["limits", *plant], ["candidates", example("candidates.toml")],
+            ["tolerance", example("tolerance.toml")], ["outages", example("outages.toml")], ["verify", example("zero.toml"), str(report)], ["drill", "7"]]
+
+
 def main():
     parser = argparse.ArgumentParser()
     parser.add_argument("program")
     parser.add_argument("--workers", type=int, default=4)
-    parser.add_argument("words", nargs="+")
+    parser.add_argument("words", nargs="*")
     asked = parser.parse_args()
-    words = [str(pathlib.Path(asked.program).resolve()), *asked.words]
+    program = str(pathlib.Path(asked.program).resolve())
     with tempfile.TemporaryDirectory() as folder, concurrent.futures.ThreadPoolExecutor(asked.workers) as pool:
-        built = library(pathlib.Path(folder))
-        whole = run(words, built, 0)
-        numbers, broken, refused, without = itertools.count(1), 0, 0, 0
-        while True:
-            batch = list(itertools.islice(numbers, 256))
-            answers = list(pool.map(lambda number: run(words, built, number), batch))
-            for number, answer in zip(batch, answers):
-                rule = fault(answer, whole)
-                refused += answer[3]
-                without += answer[3] and answer[:3] == whole[:3]
-                if rule:
-                    broken += 1
-                    print(f"growth {number}: {rule}")
-            if not all(answer[3] for answer in answers):
-                break
-    print(f"{refused} growths refused in turn, {without} of them not needed, {broken} runs broke a rule; the run itself has status {whole[0]}")
-    sys.exit(1 if broken or not refused else 0)
+        folder = pathlib.Path(folder)
+        built = library(folder)
+        kept = [trial([program, *words], built, pool) for words in ([asked.words] if asked.words else runs(program, folder))]
+    sys.exit(0 if all(kept) else 1)
 
 
 if __name__ == "__main__":

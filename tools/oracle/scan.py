@@ -412,6 +412,11 @@ def between(a, b):
     return [(a, Fraction(1)), (b, Fraction(-1))]
 
 
+def in_zero(entry):
+    """Whether a load, a bank or a filter is in the zero network too: where it is grounded, or stands at one phase."""
+    return entry.get("grounded", False) or "phase" in entry
+
+
 class Study:
     def __init__(self, table):
         study = table["study"]
@@ -490,7 +495,7 @@ class Study:
         net.series(taps, *leakage, **self.skin(e))
 
     def load(self, net, e, zero):
-        if zero and not e.get("grounded", False):
+        if zero and not in_zero(e):
             return
         bus = self.bus[e["bus"]]
         s = self.mva
@@ -509,11 +514,11 @@ class Study:
             net.series(ground(bus), Fraction(0), 100 * s / (670 * q - 74 * p))
 
     def bank(self, net, e, zero):
-        if not zero or e.get("grounded", False):
+        if not zero or in_zero(e):
             net.shunt(ground(self.bus[e["bus"]]), decimal(e["q"]) / self.mva)
 
     def filter(self, net, e, zero):
-        if zero and not e.get("grounded", False):
+        if zero and not in_zero(e):
             return
         bus = self.bus[e["bus"]]
         xc = self.mva / decimal(e["q"])
